@@ -1,0 +1,5 @@
+pub mod Among
+pub mod Causes
+pub mod Decimal
+pub mod Refused
+pub mod Units
