@@ -1,5 +1,5 @@
 -- The formulas of time and loss. All numbers are whole; ticks, ns and us are said by the names.
-use Rattle.std.specs.Prelude.{ℕ, ◌+◌, ◌-◌, ◌*◌, ◌/◌, ◌^◌, max}
+use Rattle.std.specs.Prelude.{ℕ, ◌-◌, ◌*◌, ◌/◌, ◌^◌, max}
 use Rattle.std.specs.Int.{div_ceil}
 
 -- how long `len` bytes take at `bps` bit/s, in ns, rounded up
