@@ -2,4 +2,5 @@ pub mod Among
 pub mod Causes
 pub mod Decimal
 pub mod Refused
+pub mod Times
 pub mod Units
