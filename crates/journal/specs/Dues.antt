@@ -1,0 +1,48 @@
+-- The visits that are due: each packet's first, and the next hop of each visit that passed.
+use Rattle.std.specs.Prelude.{◌≡◌, ◌⊎◌, ℕ, ◌+◌, ◌<◌, nat_lt, List, ◌++◌, length, Option, Some, None, filter_map, slice_index, if◌then◌else◌}
+use Rattle.pipe.specs.declared.step.Step.{Step}
+use Rattle.pipe.specs.declared.step.Step.TheVariants.{Lost, Full, Pass}
+use Rattle.journal.specs.declared.setup.PacketPlan.{PacketPlan}
+use Rattle.journal.specs.declared.visit.Visit.{Visit}
+use Rattle.journal.specs.SetupView.{SetupView, route_of}
+
+-- a visit whose outcome isn't known yet: when which packet comes to which hop of its route
+pub record Due : Type 0 where
+  pub tick : ℕ
+  pub packet : ℕ
+  pub hop : ℕ
+
+-- the canonical order: by tick, then by packet number
+abbrev pub Before : Due → Due → Type 0
+Before x y = (x.tick < y.tick) ⊎ ((x.tick ≡ y.tick) × (x.packet < y.packet))
+
+abbrev pub due_of : Visit → Due
+due_of v = record { tick = v.tick; packet = v.packet; hop = v.hop }
+
+-- the pipe of a visit, by the packet's route
+abbrev pub pipe_of : SetupView → Due → ℕ
+pipe_of S x = slice_index (route_of S x.packet) x.hop
+
+-- a packet with a nonempty route comes to its first pipe when it enters
+abbrev pub entry : SetupView → PacketPlan → Option Due
+entry S p =
+    if nat_lt 0 (length (route_of S p.number))
+    then Some (record { tick = p.entry_tick; packet = p.number; hop = 0 })
+    else None
+
+-- a packet that passed comes to the next pipe of its route when it leaves this one
+abbrev pub hop_after : SetupView → ℕ → ℕ → Step → Option Due
+hop_after S packet hop Lost = None
+hop_after S packet hop Full = None
+hop_after S packet hop (Pass exit) =
+    if nat_lt (hop + 1) (length (route_of S packet))
+    then Some (record { tick = exit; packet = packet; hop = hop + 1 })
+    else None
+
+-- the visit that follows this one on its packet's way; none where the way ends
+abbrev pub next_hop : SetupView → Visit → Option Due
+next_hop S v = hop_after S v.packet v.hop v.step
+
+-- all that is due by the visits of J
+abbrev pub dues : SetupView → List Visit → List Due
+dues S J = filter_map (entry S) S.packets ++ filter_map (next_hop S) J

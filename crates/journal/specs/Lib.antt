@@ -1,0 +1,10 @@
+pub mod Dues
+pub mod Entries
+pub mod Fates
+pub mod IsJournal
+pub mod IsSetup
+pub mod Journal
+pub mod Laws
+pub mod Queue
+pub mod SetupView
+pub mod Standing

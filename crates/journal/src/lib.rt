@@ -1,0 +1,21 @@
+// Setups, the one list of all visits of their packets to pipes (the journal), and what becomes of each packet.
+// It stands on pipe, loss_words and mn_base.
+// Its contracts speak of `IsJournal` (specs/IsJournal.antt), `journal_of` (specs/Journal.antt) and `fate_of` (specs/Fates.antt).
+#![tactic(auto)]
+
+mod due;
+mod fate;
+pub mod laws;
+mod maker;
+mod packet_fates;
+mod setup;
+mod visit;
+
+pub use fate::Fate;
+pub use maker::journal;
+pub use packet_fates::fates;
+pub use setup::{PacketPlan, Setup, SetupParts};
+pub use visit::Visit;
+
+#[cfg(test)]
+mod tests;

@@ -1,0 +1,41 @@
+use super::Words;
+
+// (seed, pipe, packet, word), worked out by a program of its own in Python: the block function of
+// RFC 8439 with 8 rounds, a 64-bit counter and a 64-bit stream, which gives the published first
+// block of ChaCha8 under a zero key (3e 00 ef 2f 89 5f 40 d6 ..).
+const VECTORS: [(u64, u32, u32, u32); 6] = [
+    (0, 0, 0, 0x2fef_003e),
+    (0, 1, 0, 0xb34b_8f2b),
+    (0, 0, 1, 0xd640_5f89),
+    (7, 3, 20, 0x2592_381b),
+    (0x8000_0000_0000_0005, 4, 17, 0xd5ff_3c46),
+    (0xffff_ffff_ffff_ffff, 262_143, 1_048_575, 0x9adb_0954),
+];
+
+#[test]
+fn words_are_those_of_another_implementation(rt: HostRuntime) {
+    for (seed, pipe, packet, word) in VECTORS {
+        let mut words = Words::new(seed);
+        assert_eq!(rt;
+            words.word(pipe, packet),
+            word,
+            "seed {seed} pipe {pipe} packet {packet}"
+        );
+    }
+}
+
+#[test]
+fn a_word_does_not_depend_on_what_was_asked_before(rt: HostRuntime) {
+    let mut words = Words::new(7);
+    assert_eq!(rt; words.word(9, 300), Words::new(7).word(9, 300));
+    assert_eq!(rt; words.word(3, 20), 0x2592_381b);
+    assert_eq!(rt; words.word(3, 20), 0x2592_381b);
+    assert_eq!(rt; words.word(0, 5), Words::new(7).word(0, 5));
+}
+
+fn may_move_to_a_thread<T: Send>(_value: &T) {}
+
+#[test]
+fn words_may_move_to_a_thread() {
+    may_move_to_a_thread(&Words::new(0));
+}

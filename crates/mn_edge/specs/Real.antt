@@ -1,0 +1,23 @@
+-- The real host: what it tells of each role. It tells no bytes.
+use Rattle.std.specs.Prelude.{ℕ, Bool, false, List, Option, None, slice_index_or}
+use Rattle.mn_edge.specs.declared.role.Role.{Role}
+use Rattle.mn_edge.specs.Part.{Part}
+use Rattle.mn_edge.specs.Role.{place_of}
+
+-- what the real host knows of one role
+pub record Known : Type 0 where
+  pub name : Option (List ℕ)
+  pub active : Bool
+  pub faults : ℕ
+
+-- a role before any call
+abbrev pub untouched : Known
+untouched = record { name = None; active = false; faults = 0 }
+
+-- a part of which no bytes are told
+abbrev pub silent : Known → Part
+silent known = record { left = None; written = None; name = known.name; active = known.active; faults = known.faults }
+
+-- the part of a role, by what is known of each role, in order
+abbrev pub silent_part : List Known → Role → Part
+silent_part host role = silent (slice_index_or host (place_of role) untouched)

@@ -1,0 +1,39 @@
+ghost use Rattle.std.specs.Prelude.{◌≡◌, ◌<◌};
+ghost use Rattle.mn_edge.specs.Role.{place_of, is_input};
+
+/// What a file or a stream is to a command. The order of the roles is the order in which a command uses them.
+#[derive(Clone, Copy, Debug, PartialEq, Eq)]
+pub enum Role {
+    /// The topology that is read, a GML text.
+    Topology,
+    /// The trace that is read, a pcap text.
+    Trace,
+    /// The directory that is read: the owner of each pipe.
+    Directory,
+    /// The trace that is written, a pcap text.
+    Out,
+    /// The report that is written.
+    Report,
+    /// What is printed to the terminal.
+    Screen,
+}
+
+impl Role {
+    /// How many roles there are.
+    pub const COUNT: usize = 6;
+
+    /// The place of the role in the order in which a command uses them, from 0.
+    pub fn place(self) -> usize
+        ensures place { result ≡ place_of self }
+        ensures within { result < Self.COUNT }
+    {
+        self as usize
+    }
+
+    /// Whether the role is read. All others are written.
+    pub fn is_input(self) -> bool
+        ensures input { result ≡ is_input self }
+    {
+        self.place() < Role::Out.place()
+    }
+}

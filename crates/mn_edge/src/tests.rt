@@ -1,0 +1,156 @@
+ghost use Rattle.std.specs.Prelude.{◌≡◌, ◌≤◌, true, false};
+ghost use Rattle.mn_edge.specs.declared.role.Role.{Role};
+
+use crate::{
+    Fail, Failed, Host, MemoryHost, Op, ReadEnd, RealHost, Role, WriteFault, read_all, write_all,
+};
+use mn_base::Bytes;
+use std::fs;
+use std::process::Abort;
+use std::test::Fail as Failure;
+
+// Begins a role of a host that is new.
+fn begun<H: Host>(rt: &impl Abort, host: &mut H, role: Role, name: &str)
+    requires { (each : Role) → (H.part host.old each).active ≡ false }
+    ensures { (H.part host.new role).active ≡ true }
+{
+    assert_eq!(rt; host.begin(role, name), Ok(()));
+}
+
+// Begins a role of a host that is new, under a name that it refuses.
+fn refused<H: Host>(rt: &impl Abort, host: &mut H, role: Role, name: &str)
+    requires { (each : Role) → (H.part host.old each).active ≡ false }
+{
+    assert_eq!(rt; host.begin(role, name), Err(Failed));
+}
+
+fn finished<H: Host>(rt: &impl Abort, host: &mut H, role: Role)
+    requires { (H.part host.old role).active ≡ true }
+{
+    assert_eq!(rt; host.finish(role), Ok(()));
+}
+
+fn written<H: Host>(rt: &impl Abort, host: &mut H, role: Role, text: &[u8])
+    requires { (H.part host.old role).active ≡ true }
+    ensures { (H.part host.new role).active ≡ true }
+{
+    assert_eq!(rt; write_all(host, role, text), Ok(()));
+}
+
+// What a whole read answers on a trace of these bytes, 3 at a time.
+fn read_trace(
+    rt: &(impl Abort + AllocGlobal),
+    trace: &[u8],
+    fails: &[Fail],
+    limit: usize,
+) -> Result<Bytes, ReadEnd>
+    requires { limit ≤ 268_435_456 }
+{
+    let host = MemoryHost::new(rt.alloc(), &[], trace, &[], fails, 3, 0);
+    let Ok(mut host) = host else {
+        return Err(ReadEnd::NoMemory);
+    };
+    begun(rt, &mut host, Role::Trace, "trace");
+    read_all(rt.alloc(), &mut host, Role::Trace, limit)
+}
+
+#[test]
+fn four_bytes_meet_a_limit_of_four_and_five_do_not(rt: HostRuntime) {
+    let four = read_trace(&rt, b"abcd", &[], 4).expect(&rt, "four bytes");
+    assert_eq!(rt; four.as_slice(), b"abcd".as_slice());
+    let five = read_trace(&rt, b"abcde", &[], 4);
+    assert_eq!(rt; five.err(), Some(ReadEnd::TooLarge));
+}
+
+#[test]
+fn a_whole_read_ends_at_the_call_that_is_named(rt: HostRuntime) {
+    let second = Fail {
+        role: Role::Trace,
+        op: Op::Read,
+        k: 1,
+    };
+    let other = Fail {
+        role: Role::Topology,
+        op: Op::Read,
+        k: 1,
+    };
+    assert_eq!(rt;
+        read_trace(&rt, b"abcd", &[second], 4).err(),
+        Some(ReadEnd::Fault)
+    );
+    assert!(rt; read_trace(&rt, b"abcd", &[other], 4).is_ok());
+}
+
+// What a whole write to Out answers, 8 bytes at a time, and what Out then holds.
+fn write_out(
+    rt: &(impl Abort + AllocGlobal),
+    fails: &[Fail],
+    room: usize,
+    held: &[u8],
+) -> Result<(), WriteFault> {
+    let host = MemoryHost::new(rt.alloc(), &[], &[], &[], fails, 8, room);
+    let Ok(mut host) = host else {
+        return Err(WriteFault);
+    };
+    begun(rt, &mut host, Role::Out, "out");
+    let answer = write_all(&mut host, Role::Out, b"0123456789abcdef");
+    assert_eq!(rt; host.written_bytes(Role::Out), held);
+    assert_eq!(rt; host.written_bytes(Role::Report), b"".as_slice());
+    answer
+}
+
+#[test]
+fn a_whole_write_stops_at_a_fault_and_where_room_ends(rt: HostRuntime) {
+    let whole = b"0123456789abcdef".as_slice();
+    let front = b"01234567".as_slice();
+    let second = Fail {
+        role: Role::Out,
+        op: Op::Write,
+        k: 1,
+    };
+    assert_eq!(rt; write_out(&rt, &[], 16, whole), Ok(()));
+    assert_eq!(rt; write_out(&rt, &[], 8, front), Err(WriteFault));
+    assert_eq!(rt; write_out(&rt, &[second], 16, front), Err(WriteFault));
+}
+
+#[test]
+fn a_name_has_at_most_4096_bytes(rt: HostRuntime) -> Result<(), Failure> {
+    let letters = vec![in rt.alloc(); b'n'; 4097]?;
+    let long = String::from_utf8(letters)?;
+    let host = MemoryHost::new(rt.alloc(), b"", b"", b"", &[], 1, 0);
+    let Ok(mut host) = host else {
+        panic!(rt; "memory");
+    };
+    refused(&rt, &mut host, Role::Trace, long.as_str());
+    Ok(())
+}
+
+#[test]
+fn roles_are_in_order(rt: HostRuntime) {
+    assert_eq!(rt; Role::Topology.place(), 0);
+    assert_eq!(rt; Role::Screen.place() + 1, Role::COUNT);
+    assert!(rt; Role::Directory.is_input());
+    assert!(rt; !Role::Out.is_input());
+}
+
+#[test]
+fn the_real_host_counts_a_missing_file_and_keeps_what_it_writes(
+    rt: HostRuntime,
+) -> Result<(), Failure> {
+    let name = "mn_edge_real_host.bytes";
+    let mut host = RealHost::new(rt.clone()?);
+    refused(&rt, &mut host, Role::Trace, name);
+
+    let mut host = RealHost::new(rt.clone()?);
+    begun(&rt, &mut host, Role::Out, name);
+    written(&rt, &mut host, Role::Out, b"kept");
+    finished(&rt, &mut host, Role::Out);
+
+    let mut host = RealHost::new(rt.clone()?);
+    begun(&rt, &mut host, Role::Trace, name);
+    let bytes = read_all(rt.alloc(), &mut host, Role::Trace, 4);
+    fs::remove_file(&rt, name)?;
+    let bytes = bytes.ok().ok_or("four bytes")?;
+    assert_eq!(rt; bytes.as_slice(), b"kept".as_slice());
+    Ok(())
+}

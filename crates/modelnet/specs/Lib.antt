@@ -1,0 +1,11 @@
+pub mod Answers
+pub mod Chain
+pub mod Exact
+pub mod Order
+pub mod Parted
+pub mod PipeWord
+pub mod Roles
+pub mod Run
+pub mod StatusTexts
+pub mod Steps
+pub mod Words

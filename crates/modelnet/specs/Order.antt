@@ -1,0 +1,29 @@
+-- What a command line asks for.
+use Rattle.std.specs.Prelude.{ℕ, ◌^◌, ◌≤◌, List, length, All}
+use Rattle.modelnet.specs.declared.order.PipeSpec.{PipeSpec}
+
+-- what contracts see of a `ChainOrder`
+pub record ChainView : Type 0 where
+  pub trace : List ℕ
+  pub out : List ℕ
+  pub report : List ℕ
+  pub tick_ns : ℕ
+  pub seed : ℕ
+  pub pipes : List PipeSpec
+
+-- a pipe within the limits of a link
+pub record IsPipeSpec (pipe : PipeSpec) : Type 0 where
+  pub bps_least : 1000 ≤ pipe.bps
+  pub bps_most : pipe.bps ≤ 10 ^ 12
+  pub latency : pipe.latency_us ≤ 10000000
+  pub queue_least : 1 ≤ pipe.queue
+  pub queue_most : pipe.queue ≤ 1000
+  pub loss : pipe.ppm ≤ 1000000
+
+-- an order within the limits of `chain`
+pub record IsOrder (order : ChainView) : Type 0 where
+  pub tick_least : 1000 ≤ order.tick_ns
+  pub tick_most : order.tick_ns ≤ 10000000
+  pub pipes_least : 1 ≤ length order.pipes
+  pub pipes_most : length order.pipes ≤ 16
+  pub pipes : All IsPipeSpec order.pipes

@@ -1,0 +1,62 @@
+-- The lines that tell how a command ended. All are ASCII; a line ends with a line feed, 10.
+use Rattle.std.specs.Prelude.{ℕ, List, [], ◌∷◌, ◌++◌, codes}
+use Rattle.std.specs.Fmt.{decimal}
+use Rattle.mn_edge.specs.declared.role.Role.{Role}
+use Rattle.mn_edge.specs.declared.role.Role.TheVariants as role
+use Rattle.pcap_io.specs.declared.fault.PcapFault.{PcapFault}
+use Rattle.pcap_io.specs.declared.fault.PcapFault.TheVariants.{NotPcap, ShortHeader, Version, LinkType, Truncated, TimeRange, TooLong, TooMany}
+use Rattle.modelnet.specs.declared.words_fault.Opt.{Opt}
+use Rattle.modelnet.specs.declared.words_fault.Opt.TheVariants as opt
+use Rattle.modelnet.specs.declared.words_fault.WordsFault.{WordsFault}
+use Rattle.modelnet.specs.declared.words_fault.WordsFault.TheVariants.{Command, Form, Value}
+use Rattle.modelnet.specs.declared.status.Status.{Status}
+use Rattle.modelnet.specs.declared.status.Status.TheVariants.{Done, NoMemory, BadWords, BadTrace, ReadFault, WriteFault, TooLarge}
+
+-- the program's name, a text, and a line feed
+abbrev pub line : List ℕ → List ℕ
+line text = codes "modelnet: " ++ text ++ 10 ∷ []
+
+abbrev pub opt_name : Opt → List ℕ
+opt_name opt.Mode = codes "--mode"
+opt_name opt.Cores = codes "--cores"
+opt_name opt.Seed = codes "--seed"
+opt_name opt.TickNs = codes "--tick-ns"
+opt_name opt.ClusterReport = codes "--cluster-report"
+opt_name opt.Order = codes "--order"
+opt_name opt.Turns = codes "--turns"
+opt_name opt.Number = codes "--number"
+opt_name opt.Packets = codes "--packets"
+opt_name opt.Pipe = codes "PIPE"
+
+abbrev pub role_name : Role → List ℕ
+role_name role.Topology = codes "topology"
+role_name role.Trace = codes "trace"
+role_name role.Directory = codes "directory"
+role_name role.Out = codes "out"
+role_name role.Report = codes "report"
+role_name role.Screen = codes "screen"
+
+unfoldable pub words_fault_text : WordsFault → List ℕ
+words_fault_text Command = codes "no such command"
+words_fault_text Form = codes "bad words"
+words_fault_text (Value opt) = codes "bad value of " ++ opt_name opt
+
+unfoldable pub pcap_fault_text : PcapFault → List ℕ
+pcap_fault_text NotPcap = codes "not pcap"
+pcap_fault_text ShortHeader = codes "short header"
+pcap_fault_text (Version number) = codes "version " ++ decimal number
+pcap_fault_text (LinkType number) = codes "link type " ++ decimal number
+pcap_fault_text (Truncated packet) = codes "packet " ++ decimal packet ++ codes " is cut short"
+pcap_fault_text (TimeRange packet) = codes "time of packet " ++ decimal packet ++ codes " out of range"
+pcap_fault_text (TooLong packet) = codes "packet " ++ decimal packet ++ codes " is too long"
+pcap_fault_text TooMany = codes "too many packets"
+
+-- the line of a status; done has none
+unfoldable pub status_text : Status → List ℕ
+status_text Done = []
+status_text NoMemory = line (codes "no memory")
+status_text (BadWords fault) = line (words_fault_text fault)
+status_text (BadTrace fault) = line (codes "trace: " ++ pcap_fault_text fault)
+status_text (ReadFault role) = line (codes "cannot read " ++ role_name role)
+status_text (WriteFault role) = line (codes "cannot write " ++ role_name role)
+status_text (TooLarge role) = line (role_name role ++ codes " is too large")

@@ -1,0 +1,61 @@
+-- What a command line asks for, or its first fault. A word is the list of its bytes.
+use denote.Ref.{Bor}
+use Rattle.std.specs.Prelude.{ℕ, map, List, [], ◌∷◌, Option, Some, None, Result, Ok, Err, ok_or, bytes_eq, codes, if◌then◌else◌}
+use Rattle.mn_base.specs.Decimal.{decimal_of}
+use Rattle.modelnet.specs.declared.order.Order.{Order}
+use Rattle.modelnet.specs.declared.order.Order.TheVariants.{Chain}
+use Rattle.modelnet.specs.declared.words_fault.Opt.TheVariants.{Seed, TickNs, Pipe}
+use Rattle.modelnet.specs.declared.words_fault.WordsFault.{WordsFault}
+use Rattle.modelnet.specs.declared.words_fault.WordsFault.TheVariants.{Command, Form, Value}
+use Rattle.modelnet.specs.Order.{ChainView}
+use Rattle.modelnet.specs.Parted.{PartedWords, parted}
+use Rattle.modelnet.specs.PipeWord.{number_within, chain_pipes}
+
+infixl 10 ◌>>=◌
+abbrev pub ◌>>=◌ : {A B F : Type 0} → Result A F → (A → Result B F) → Result B F
+Ok x >>= f = f x
+Err fault >>= f = Err fault
+
+-- the seed; 0 where the option is left out
+abbrev pub seed_of : Option (List ℕ) → Option ℕ
+seed_of None = Some 0
+seed_of (Some text) = decimal_of text
+
+-- the tick length, in ns; 100,000 where the option is left out
+abbrev pub tick_of : Option (List ℕ) → Option ℕ
+tick_of None = Some 100000
+tick_of (Some text) = number_within 1000 10000000 text
+
+-- what parted words ask for, or the first option whose value is out of its range
+unfoldable pub valued : PartedWords → Result ChainView WordsFault
+valued words = do
+  seed ← ok_or (seed_of words.seed) (Value Seed)
+  tick_ns ← ok_or (tick_of words.tick_ns) (Value TickNs)
+  pipes ← ok_or (chain_pipes words.pipes) (Value Pipe)
+  Ok (record {
+    trace = words.trace;
+    out = words.out;
+    report = words.report;
+    tick_ns = tick_ns;
+    seed = seed;
+    pipes = pipes;
+  })
+
+-- what the words behind `chain` ask for, or their first fault
+unfoldable pub chain_of : List (List ℕ) → Result ChainView WordsFault
+chain_of words = do
+  options ← ok_or (parted words) Form
+  valued options
+
+-- what a command line asks for, or its first fault
+unfoldable pub ordered : List (List ℕ) → Result ChainView WordsFault
+ordered [] = Err Command
+ordered (command ∷ words) = if bytes_eq command (codes "chain") then chain_of words else Err Command
+
+-- what contracts see of an order
+abbrev pub view_of : Order → ChainView
+view_of (Chain order) = order
+
+-- the bytes of the words
+abbrev pub texts : List (Bor (List ℕ)) → List (List ℕ)
+texts words = map (λ word. word.now) words

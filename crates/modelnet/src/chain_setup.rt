@@ -1,0 +1,117 @@
+ghost use Rattle.std.specs.Prelude.{◌≡◌, ◌≤◌, ℕ, length, map, All, IfOk};
+ghost use Rattle.std.specs.List.{AllZip, range_with_len};
+ghost use Rattle.mn_base.specs.Times.{base_of};
+ghost use Rattle.pcap_io.specs.Capture.{IsRecordTime, IsTrace};
+ghost use Rattle.modelnet.specs.Order.{IsPipeSpec, IsOrder};
+ghost use Rattle.modelnet.specs.Chain.{IsPipeOf, IsChainSetup, plans_of};
+
+use crate::order::{ChainOrder, PipeSpec};
+use journal::{PacketPlan, Setup, SetupParts};
+use mn_base::{NoMemory, PipeParams, keep_of_ppm};
+use pcap_io::{Packet, Trace};
+use std::alloc::Global;
+
+/// The setup of a chain: one route of all its pipes, one core, and each packet of the trace bound to that route.
+pub fn chain_setup(alloc: Global, order: &ChainOrder, trace: &Trace) -> Result<Setup, NoMemory>
+    requires order { IsOrder order.now }
+    requires trace { IsTrace trace.now }
+    requires times { All (λ p. IsRecordTime p.time_ns) trace.now.packets }
+    ensures { IfOk result (IsChainSetup order.now trace.now) }
+{
+    let parts = chain_parts(alloc, order, trace)?;
+    Ok(Setup::new(parts))
+}
+
+fn chain_parts(alloc: Global, order: &ChainOrder, trace: &Trace) -> Result<SetupParts, NoMemory>
+    requires order { IsOrder order.now }
+    ensures { IfOk result (IsChainSetup order.now trace.now) }
+{
+    let packets = trace.packets();
+    let base_ns = time_base(packets);
+    let route = chain_route(alloc, order.pipes.len())?;
+    let mut routes = Vec::new(alloc);
+    routes.push(route)?;
+    Ok(SetupParts {
+        tick_ns: order.tick_ns,
+        seed: order.seed,
+        base_ns,
+        link_type: trace.link_type(),
+        cores: 1,
+        pipes: chain_pipes(alloc, order.pipes.as_slice(), order.tick_ns)?,
+        owners: vec![in alloc; 0u32; order.pipes.len()]?,
+        routes,
+        packets: packet_plans(alloc, packets, base_ns, order.tick_ns)?,
+    })
+}
+
+/// The least time of all records, in ns, or 0 where there is none.
+fn time_base(packets: &[Packet]) -> u64
+    ensures value { result ≡ base_of (map (λ p. p.time_ns) packets.now) }
+    ensures least { All (λ p. result ≤ p.time_ns) packets.now }
+{
+    let Some((first, others)) = packets.split_first() else {
+        return 0;
+    };
+    let mut least = first.time_ns;
+    for packet in others {
+        least = least.min(packet.time_ns);
+    }
+    least
+}
+
+fn chain_pipes(alloc: Global, pipes: &[PipeSpec], tick_ns: u64) -> Result<Vec<PipeParams>, NoMemory>
+    requires tick_least { 1000 ≤ tick_ns }
+    requires tick_most { tick_ns ≤ 10000000 }
+    requires pipes { All IsPipeSpec pipes.now }
+    ensures { IfOk result (λ params. AllZip (IsPipeOf tick_ns) pipes.now params.items) }
+{
+    let mut params = Vec::new(alloc);
+    for pipe in pipes {
+        let keep = keep_of_ppm(pipe.ppm);
+        params.push(PipeParams::new(
+            pipe.bps,
+            u64::from(pipe.latency_us),
+            pipe.queue,
+            keep,
+            tick_ns,
+        ))?;
+    }
+    Ok(params)
+}
+
+/// The route through all of so many pipes, in order.
+fn chain_route(alloc: Global, pipes: usize) -> Result<Vec<u32>, NoMemory>
+    requires { pipes ≤ 16 }
+    ensures { IfOk result (λ route. route.items ≡ range_with_len 0 pipes) }
+{
+    let mut route = Vec::new(alloc);
+    for pipe in 0..pipes as u32 {
+        route.push(pipe)?;
+    }
+    Ok(route)
+}
+
+/// Each packet as it enters.
+fn packet_plans(
+    alloc: Global,
+    packets: &[Packet],
+    base_ns: u64,
+    tick_ns: u64,
+) -> Result<Vec<PacketPlan>, NoMemory>
+    requires tick { 1 ≤ tick_ns }
+    requires few { length packets.now ≤ 1048576 }
+    requires base { All (λ p. base_ns ≤ p.time_ns) packets.now }
+    ensures { IfOk result (λ plans. plans.items ≡ plans_of base_ns tick_ns packets.now) }
+{
+    let mut plans = Vec::new(alloc);
+    for (number, packet) in packets.iter().enumerate() {
+        plans.push(PacketPlan {
+            number: number as u32,
+            entry_tick: (packet.time_ns - base_ns) / tick_ns,
+            len: packet.original,
+            route: 0,
+            core: 0,
+        })?;
+    }
+    Ok(plans)
+}

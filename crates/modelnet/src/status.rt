@@ -1,0 +1,37 @@
+use crate::words_fault::WordsFault;
+use mn_edge::Role;
+use pcap_io::PcapFault;
+
+/// How a command ended.
+#[derive(Clone, Copy, Debug, PartialEq, Eq)]
+pub enum Status {
+    /// All was read to its end and written.
+    Done,
+    /// Memory was refused; nothing was written.
+    NoMemory,
+    /// The words are no order.
+    BadWords(WordsFault),
+    /// The trace is no pcap text; this is its first fault.
+    BadTrace(PcapFault),
+    /// A call of the host on this input role failed.
+    ReadFault(Role),
+    /// A call of the host on this output role failed.
+    WriteFault(Role),
+    /// More bytes of this role came than its limit.
+    TooLarge(Role),
+}
+
+impl Status {
+    /// The number with which the program ends.
+    pub fn number(&self) -> u8 {
+        match self {
+            Status::Done => 0,
+            Status::NoMemory => 1,
+            Status::BadWords(_) => 2,
+            Status::BadTrace(_) => 4,
+            Status::ReadFault(_) => 6,
+            Status::WriteFault(_) => 7,
+            Status::TooLarge(_) => 8,
+        }
+    }
+}

@@ -1,0 +1,112 @@
+ghost use Rattle.std.specs.Prelude.{◌≡◌, string_bytes, IfOk};
+ghost use Rattle.modelnet.specs.StatusTexts.{opt_name, role_name, words_fault_text, pcap_fault_text, status_text};
+
+use crate::status::Status;
+use crate::words_fault::{Opt, WordsFault};
+use mn_base::{Bytes, NoMemory};
+use mn_edge::Role;
+use pcap_io::PcapFault;
+use std::alloc::{AllocError, Global};
+
+/// The line that tells how a command ended, with a line feed at its end. `Done` has no line, and its text is empty.
+///
+/// A trace whose first record is cut short gives `modelnet: trace: packet 0 is cut short`.
+pub fn status_line(alloc: Global, status: &Status) -> Result<Bytes, NoMemory>
+    ensures line { IfOk result (λ line. line ≡ status_text status.now) }
+{
+    let line = line_of(alloc, *status)?;
+    Ok(Bytes::from_vec(line.into_bytes()))
+}
+
+#[tactic(auto, unfolding(crate::specs::StatusTexts::status_text))]
+fn line_of(alloc: Global, status: Status) -> Result<String, AllocError>
+    ensures { IfOk result (λ line. string_bytes line ≡ status_text status) }
+{
+    match status {
+        Status::Done => Ok(String::new(alloc)),
+        Status::NoMemory => String::from_str(alloc, "modelnet: no memory\n"),
+        Status::BadWords(fault) => {
+            let text = words_fault_text(alloc, fault)?;
+            format!(in alloc; "modelnet: {text}\n")
+        }
+        Status::BadTrace(fault) => {
+            let text = pcap_fault_text(alloc, fault)?;
+            format!(in alloc; "modelnet: trace: {text}\n")
+        }
+        Status::ReadFault(role) => {
+            let role = role_name(role);
+            format!(in alloc; "modelnet: cannot read {role}\n")
+        }
+        Status::WriteFault(role) => {
+            let role = role_name(role);
+            format!(in alloc; "modelnet: cannot write {role}\n")
+        }
+        Status::TooLarge(role) => {
+            let role = role_name(role);
+            format!(in alloc; "modelnet: {role} is too large\n")
+        }
+    }
+}
+
+#[tactic(auto, unfolding(crate::specs::StatusTexts::words_fault_text))]
+fn words_fault_text(alloc: Global, fault: WordsFault) -> Result<String, AllocError>
+    ensures { IfOk result (λ text. string_bytes text ≡ words_fault_text fault) }
+{
+    match fault {
+        WordsFault::Command => String::from_str(alloc, "no such command"),
+        WordsFault::Form => String::from_str(alloc, "bad words"),
+        WordsFault::Value(opt) => {
+            let name = opt_name(opt);
+            format!(in alloc; "bad value of {name}")
+        }
+    }
+}
+
+#[tactic(auto, unfolding(crate::specs::StatusTexts::pcap_fault_text))]
+fn pcap_fault_text(alloc: Global, fault: PcapFault) -> Result<String, AllocError>
+    ensures { IfOk result (λ text. string_bytes text ≡ pcap_fault_text fault) }
+{
+    match fault {
+        PcapFault::NotPcap => String::from_str(alloc, "not pcap"),
+        PcapFault::ShortHeader => String::from_str(alloc, "short header"),
+        PcapFault::Version(number) => format!(in alloc; "version {number}"),
+        PcapFault::LinkType(number) => format!(in alloc; "link type {number}"),
+        PcapFault::Truncated(packet) => format!(in alloc; "packet {packet} is cut short"),
+        PcapFault::TimeRange(packet) => format!(in alloc; "time of packet {packet} out of range"),
+        PcapFault::TooLong(packet) => format!(in alloc; "packet {packet} is too long"),
+        PcapFault::TooMany => String::from_str(alloc, "too many packets"),
+    }
+}
+
+fn opt_name(opt: Opt) -> &'static str
+    ensures { result.now ≡ opt_name opt }
+{
+    match opt {
+        Opt::Mode => "--mode",
+        Opt::Cores => "--cores",
+        Opt::Seed => "--seed",
+        Opt::TickNs => "--tick-ns",
+        Opt::ClusterReport => "--cluster-report",
+        Opt::Order => "--order",
+        Opt::Turns => "--turns",
+        Opt::Number => "--number",
+        Opt::Packets => "--packets",
+        Opt::Pipe => "PIPE",
+    }
+}
+
+fn role_name(role: Role) -> &'static str
+    ensures { result.now ≡ role_name role }
+{
+    match role {
+        Role::Topology => "topology",
+        Role::Trace => "trace",
+        Role::Directory => "directory",
+        Role::Out => "out",
+        Role::Report => "report",
+        Role::Screen => "screen",
+    }
+}
+
+#[cfg(test)]
+mod tests;

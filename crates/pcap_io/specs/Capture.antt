@@ -1,0 +1,30 @@
+-- What a trace is: a link type and packets in order, within the limits.
+use Rattle.std.specs.Prelude.{◌≡◌, ℕ, ◌*◌, ◌^◌, ◌<◌, ◌≤◌, ◌⊎◌, List, length}
+use Rattle.std.specs.List.{All}
+use Rattle.mn_base.specs.declared.limits.TheConstants.{PACKETS_MAX, PACKET_BYTES_MAX}
+use Rattle.pcap_io.specs.declared.packet.Packet.{Packet}
+
+-- what contracts see of a `Trace`
+pub record Capture : Type 0 where
+  pub link_type : ℕ
+  pub packets : List Packet
+
+-- Ethernet, raw IP or IPv4
+abbrev pub IsLinkType : ℕ → Type 0
+IsLinkType n = (n ≡ 1) ⊎ (n ≡ 101) ⊎ (n ≡ 228)
+
+-- the time is below 2 ^ 32 seconds, and neither length is above the limit
+pub record IsPacket (packet : Packet) : Type 0 where
+  pub time : packet.time_ns < 2 ^ 32 * 10 ^ 9
+  pub original : packet.original ≤ PACKET_BYTES_MAX
+  pub captured : length packet.bytes ≤ PACKET_BYTES_MAX
+
+-- a link type that is known, and at most so many packets, each within the limits
+pub record IsTrace (trace : Capture) : Type 0 where
+  pub link_type : IsLinkType trace.link_type
+  pub count : length trace.packets ≤ PACKETS_MAX
+  pub packets : All IsPacket trace.packets
+
+-- the time that a record can say: at most 3,600,000,000 seconds, and a fraction of less than 5,000 more
+abbrev pub IsRecordTime : ℕ → Type 0
+IsRecordTime time_ns = time_ns < 3600005000 * 10 ^ 9

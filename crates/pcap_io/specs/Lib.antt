@@ -1,0 +1,7 @@
+pub mod Answers
+pub mod Capture
+pub mod Faults
+pub mod Form
+pub mod Laws
+pub mod Reading
+pub mod Writing

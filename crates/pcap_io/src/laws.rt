@@ -1,0 +1,28 @@
+//! Laws of the definitions. Each computes nothing: its clause is the law.
+
+ghost use Rattle.pcap_io.specs.Laws.{ReadsBack, HasOneReading, HasNoFault, HasOneFault, IsAnswered};
+
+/// What `write_pcap` writes of a trace within the limits reads to that trace, if no second is above 3,600,000,000.
+pub fn written_reads_back()
+    ensures { ReadsBack }
+{}
+
+/// A text says one trace at most, though several texts may say it.
+pub fn one_reading()
+    ensures { HasOneReading }
+{}
+
+/// A text that says a trace has no first fault.
+pub fn no_fault_of_a_reading()
+    ensures { HasNoFault }
+{}
+
+/// A text has one first fault at most.
+pub fn one_first_fault()
+    ensures { HasOneFault }
+{}
+
+/// Each text says a trace or has a first fault, so it says a trace exactly where it has no fault.
+pub fn reading_or_fault()
+    ensures { IsAnswered }
+{}

@@ -1,0 +1,59 @@
+ghost use Rattle.std.specs.Prelude.{◌≡◌};
+ghost use Rattle.pcap_io.specs.Capture.{Capture, IsTrace};
+
+use crate::packet::Packet;
+use std::marker::Model;
+
+/// A capture: its link type and its packets, in the order of the file.
+///
+/// The link type is 1 (Ethernet), 101 (raw IP) or 228 (IPv4), and each packet is within the limits: at most
+/// 1,048,576 packets, each with a time below 2^32 s and at most 262,144 bytes, both captured and original.
+#[derive(Drop)]
+pub struct Trace {
+    link_type: u32,
+    packets: Vec<Packet>,
+}
+
+impl Model for Trace {
+    ghost use Rattle.pcap_io.specs.Capture.{Capture, IsTrace};
+
+    ghost Value = { Capture };
+
+    ghost view = { λ t. record { link_type = t.link_type; packets = t.packets.items } };
+
+    ghost invariant = { λ t. IsTrace (record { link_type = t.link_type; packets = t.packets.items }) };
+}
+
+impl Trace {
+    /// A trace of these packets, with no memory taken.
+    pub fn new(link_type: u32, packets: Vec<Packet>) -> Trace
+        requires { IsTrace (record { link_type = link_type; packets = packets.items }) }
+        ensures { result ≡ record { link_type = link_type; packets = packets.items } }
+    {
+        Trace { link_type, packets }
+    }
+
+    /// The link type, as pcap numbers them.
+    pub fn link_type(&self) -> u32
+        ensures value { result ≡ self.now.link_type }
+        ensures within { IsTrace self.now }
+    {
+        self.link_type
+    }
+
+    /// Lends the packets.
+    pub fn packets(&self) -> &[Packet]
+        ensures value { result.now ≡ self.now.packets }
+        ensures within { IsTrace self.now }
+    {
+        self.packets.as_slice()
+    }
+
+    /// The packets themselves, with no memory taken.
+    pub fn into_packets(self) -> Vec<Packet>
+        ensures value { result.items ≡ self.packets }
+        ensures within { IsTrace self }
+    {
+        self.packets
+    }
+}

@@ -1,0 +1,3 @@
+pub mod Above
+pub mod Bounds
+pub mod Recurrence

@@ -1,0 +1,4 @@
+pub mod Finishes
+pub mod Inside
+pub mod Memory
+pub mod Outcome

@@ -1,0 +1,55 @@
+ghost use Rattle.std.specs.Prelude.{◌≡◌, ◌≢◌, ◌*◌, ◌^◌, ◌<◌, ◌≤◌, length, All, AllPairs, IfOk, IsSome, find, ◌==◌};
+ghost use Rattle.std.specs.Option.{option_copied};
+ghost use Rattle.mn_base.specs.Times.{output_time};
+ghost use Rattle.journal.specs.SetupView.{packet_of, len_of};
+ghost use Rattle.report.specs.Traces.{trace_of, packet_left};
+
+use journal::{PacketPlan, Setup};
+use mn_base::NoMemory;
+use pcap_io::{Packet, Trace};
+use settle::Leaving;
+use std::alloc::Global;
+
+/// The packet of a number, if it is there. Packets stand by their numbers, so it takes as many steps as their count has
+/// binary digits.
+fn find_packet(packets: &[PacketPlan], number: u32) -> Option<&PacketPlan>
+    requires rise { AllPairs (λ p q. p.number < q.number) packets.now }
+    ensures { option_copied result ≡ find (λ p. p.number == number) packets.now }
+{
+    match packets.binary_search_by_key(&number, |packet| packet.number) {
+        Ok(place) => Some(&packets[place]),
+        Err(_) => None,
+    }
+}
+
+/// The original length of a packet of the setup, in bytes.
+fn original_len(setup: &Setup, number: u32) -> u32
+    ensures { result ≡ len_of setup.now number }
+{
+    match find_packet(&setup.parts().packets, number) {
+        Some(packet) => packet.len,
+        None => 0,
+    }
+}
+
+/// The trace of the packets that left, in the given order: each with its captured bytes and its original length, at the
+/// time of its tick in ns. A packet that leaves at tick x has the time `base_ns + x * tick_ns`.
+pub fn out_trace(alloc: Global, setup: &Setup, leaving: Vec<Leaving>) -> Result<Trace, NoMemory>
+    requires of_setup { All (λ left. IsSome (packet_of setup.now left.packet)) leaving.items }
+    requires different { AllPairs (λ a b. a.packet ≢ b.packet) leaving.items }
+    requires lengths { All (λ left. length left.bytes ≤ 262144) leaving.items }
+    requires times { All (λ left. output_time setup.now.base_ns setup.now.tick_ns left.tick < 2 ^ 32 * 10 ^ 9) leaving.items }
+    ensures { IfOk result (λ trace. trace ≡ trace_of setup.now leaving.items) }
+{
+    let parts = setup.parts();
+    let mut packets = Vec::new(alloc);
+    for left in leaving {
+        let original = original_len(setup, left.packet);
+        packets.push(Packet {
+            time_ns: parts.base_ns + left.tick * parts.tick_ns,
+            original,
+            bytes: left.bytes,
+        })?;
+    }
+    Ok(Trace::new(parts.link_type, packets))
+}

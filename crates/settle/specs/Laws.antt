@@ -1,0 +1,17 @@
+-- What holds of outcomes.
+use Rattle.std.specs.Prelude.{◌≡◌, ℕ, List}
+use Rattle.journal.specs.declared.visit.Visit.{Visit}
+use Rattle.journal.specs.SetupView.{SetupView}
+use Rattle.settle.specs.OutcomeView.{OutcomeView}
+use Rattle.settle.specs.IsOutcome.{IsOutcome}
+
+-- all that is written of two outcomes is the same
+pub record IsSameOutcome (o p : OutcomeView) : Type 0 where
+  pub leaving : o.leaving ≡ p.leaving
+  pub dropped : o.dropped ≡ p.dropped
+  pub pipe_counts : o.pipe_counts ≡ p.pipe_counts
+
+-- a setup, the list of its visits and the packets' bytes have one outcome
+abbrev pub OutcomesAgree : Type 0
+OutcomesAgree =
+    (S : SetupView) (visits : List Visit) (bytes : List (List ℕ)) (o p : OutcomeView) → IsOutcome S visits bytes o → IsOutcome S visits bytes p → IsSameOutcome o p

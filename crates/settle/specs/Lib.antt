@@ -1,0 +1,4 @@
+pub mod Counted
+pub mod IsOutcome
+pub mod Laws
+pub mod OutcomeView

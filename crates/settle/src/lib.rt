@@ -1,0 +1,15 @@
+// The outcome of a run: who left when and with which bytes, who was dropped where, and what each pipe did.
+// It stands on parcel, journal, pipe and mn_base.
+// Its contracts speak in `IsOutcome` (specs/IsOutcome.antt), the outcome of a setup by the list of its visits.
+#![tactic(auto)]
+
+mod counting;
+mod gathering;
+pub mod laws;
+mod outcome;
+
+pub use gathering::gather;
+pub use outcome::{DropLine, Leaving, Outcome};
+
+#[cfg(test)]
+mod tests;

@@ -1,0 +1,6 @@
+pub mod Firsts
+pub mod SeenIds
+pub mod InRange
+pub mod TooManyLinks
+pub mod Valid
+pub mod Refusals

@@ -1,0 +1,22 @@
+use Rattle.std.proofs.Common.{arith}
+use Rattle.std.specs.Ordering.{nat_cmp}
+use Rattle.std.specs.BTreeMap.{get}
+use Rattle.topo.proofs.InRange.{faultless_at}
+use Rattle.topo.proofs.TooManyLinks.{too_many_links}
+use Rattle.topo.proofs.linking.links_of.Goals as goal
+
+pub push_links-requires-clause-latency_us : goal.push_links-requires-clause-latency_us
+push_links-requires-clause-latency_us c =
+    (faultless_at (get nat_cmp c.args.numbers.now) c.args.edges.now c.loop-edge.edge-index _ c.requires c.loop-edge-test.true).latency_us
+
+pub push_links-requires-clause-queue : goal.push_links-requires-clause-queue
+push_links-requires-clause-queue c =
+    (faultless_at (get nat_cmp c.args.numbers.now) c.args.edges.now c.loop-edge.edge-index _ c.requires c.loop-edge-test.true).queue_most
+
+pub push_links-requires-clause-ppm : goal.push_links-requires-clause-ppm
+push_links-requires-clause-ppm c =
+    (faultless_at (get nat_cmp c.args.numbers.now) c.args.edges.now c.loop-edge.edge-index _ c.requires c.loop-edge-test.true).ppm
+
+pub returns-then-len-gt-LINKS_MAX-clause-fault : goal.returns-then-len-gt-LINKS_MAX-clause-fault
+returns-then-len-gt-LINKS_MAX-clause-fault c =
+    too_many_links c.args.directed (get nat_cmp c.args.numbers.now) c.args.edges.now c.loop-edge.edge-index _ c.loop-edge.links.items c.push_links.new.links.items c.loop-edge-test.true c.loop-edge.invariant.links c.in_ok-push_links.ensures (omega arith)

@@ -1,0 +1,39 @@
+-- What a topology is: its nodes and links, and what always holds of them.
+use Rattle.std.specs.Prelude.{◌≡◌, ◌≢◌, ℕ, ◌<◌, ◌≤◌, ◌^◌, Bool, List, length, Some, All, AllPairs}
+use Rattle.std.specs.List.{count_by}
+use Rattle.topo.specs.declared.parts.Node.{Node}
+use Rattle.topo.specs.declared.parts.EdgeSpec.{EdgeSpec}
+use Rattle.topo.specs.declared.parts.Link.{Link}
+use Rattle.topo.specs.Nodes.{is_edge_node, node_with}
+use Rattle.topo.specs.Links.{links_of}
+
+pub record Graph : Type 0 where
+  pub nodes : List Node
+  pub links : List Link
+
+-- the ends are among so many nodes, and the values in their ranges
+pub record IsLink (node_count : ℕ) (l : Link) : Type 0 where
+  pub leaves : l.from < node_count
+  pub enters : l.to < node_count
+  pub bps_least : 1000 ≤ l.bps
+  pub bps_most : l.bps ≤ 10 ^ 12
+  pub latency_us : l.latency_us ≤ 10000000
+  pub queue_least : 1 ≤ l.queue
+  pub queue_most : l.queue ≤ 1000
+  pub ppm : l.ppm ≤ 1000000
+
+-- no address is that of both
+abbrev pub DifferInAddress : Node → Node → Type 0
+DifferInAddress a b = (x : ℕ) → a.address ≡ Some x → b.address ≢ Some x
+
+pub record IsTopology (t : Graph) : Type 0 where
+  pub few_nodes : length t.nodes ≤ 4096
+  pub few_edge_nodes : count_by is_edge_node t.nodes ≤ 512
+  pub few_links : length t.links ≤ 32768
+  pub ids : AllPairs (λ a b. a.id ≢ b.id) t.nodes
+  pub addresses : AllPairs DifferInAddress t.nodes
+  pub links_hold : All (IsLink (length t.nodes)) t.links
+
+-- the nodes as they are given, and the links of the edges
+abbrev pub topology_of : List Node → List EdgeSpec → Bool → Graph
+topology_of nodes edges directed = record { nodes = nodes; links = links_of directed (node_with nodes) edges }

@@ -1,0 +1,21 @@
+// Valid topologies: nodes, links, and the first fault of what is none.
+// It stands on mn_base.
+// Its contracts speak in the first fault of specs/Faults.antt and in the links and the validity of specs/Topologies.antt.
+#![tactic(auto)]
+
+mod counts;
+mod edges;
+mod faults;
+mod identity;
+mod keys;
+mod linking;
+mod parts;
+mod topologies;
+
+pub use faults::{Many, TopoFault};
+pub use keys::Key;
+pub use parts::{EdgeSpec, Link, Node};
+pub use topologies::Topology;
+
+#[cfg(test)]
+mod tests;
