@@ -6,6 +6,7 @@ use Rattle.mn_edge.specs.declared.fail.Op.TheVariants.{Begin, Read, Write, Finis
 use Rattle.mn_edge.specs.declared.host.Failed.{Failed}
 use Rattle.mn_edge.specs.declared.role.Role.{Role}
 use Rattle.mn_edge.specs.declared.role.Role.TheVariants.{Topology, Trace, Directory}
+use Rattle.mn_edge.specs.Fail.{IsNamed}
 use Rattle.mn_edge.specs.Part.{Part}
 use Rattle.mn_edge.specs.Role.{place_of}
 
@@ -54,6 +55,17 @@ IsFull held = held.room ≤ length held.written
 -- one more, up to 2^64 - 1
 abbrev pub next : ℕ → ℕ
 next count = min (count + 1) (2 ^ 64 - 1)
+
+-- how many calls of that kind were made
+abbrev pub count_of : Op → Calls → ℕ
+count_of Begin calls = calls.begins
+count_of Read calls = calls.reads
+count_of Write calls = calls.writes
+count_of Finish calls = calls.finishes
+
+-- the list names the call of that kind that comes next on that role
+abbrev pub NamesNext : Memory → Role → Op → Type 0
+NamesNext host role op = IsNamed host.fails role op (count_of op (held_of host role).calls)
 
 -- one more call of that kind
 abbrev pub counted : Op → Calls → Calls

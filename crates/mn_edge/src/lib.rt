@@ -19,4 +19,5 @@ pub use host::{Failed, Host, WriteFault};
 pub use memory::MemoryHost;
 pub use real::RealHost;
 pub use role::Role;
+pub use stream::NAME_MAX;
 pub use whole::{ReadEnd, read_all, write_all};

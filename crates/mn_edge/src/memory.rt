@@ -4,9 +4,8 @@ ghost use Rattle.std.specs.Io.KnownBytes.{IsAtEnd};
 ghost use Rattle.mn_edge.specs.declared.role.Role.{Role};
 ghost use Rattle.mn_edge.specs.declared.stream.TheConstants.{NAME_MAX};
 ghost use Rattle.mn_edge.specs.Part.{Part, Fails, Begins, Takes, Adds, Finishes};
-ghost use Rattle.mn_edge.specs.Fail.{IsNamed};
 ghost use Rattle.mn_edge.specs.Role.{is_input};
-ghost use Rattle.mn_edge.specs.Memory.{Memory, held_of, part_of, fresh, given, IsFull, read_size, write_size, after_begin, after_read, after_write, after_finish, Touches};
+ghost use Rattle.mn_edge.specs.Memory.{Memory, held_of, part_of, fresh, given, NamesNext, IsFull, read_size, write_size, after_begin, after_read, after_write, after_finish, Touches};
 
 use crate::fail::{Fail, Op, is_named};
 use crate::host::{Failed, Host};
@@ -91,7 +90,7 @@ impl Host for MemoryHost {
             (λ _. Begins name.now (part_of (held_of self.old role)) (part_of (held_of self.new role)))
             (λ _. Fails (part_of (held_of self.old role)) (part_of (held_of self.new role))) }
         ensures others { (other : Role) → other ≢ role → part_of (held_of self.new other) ≡ part_of (held_of self.old other) }
-        ensures exact { IsErr result ↔ (IsNamed self.old.fails role Op.Begin (held_of self.old role).calls.begins ⊎ NAME_MAX < length name.now) }
+        ensures exact { IsErr result ↔ (NamesNext self.old role Op.Begin ⊎ NAME_MAX < length name.now) }
         ensures after { held_of self.new role ≡ after_begin name.now (held_of self.old role) result }
         ensures touched { Touches role self.old self.new }
     {
@@ -109,7 +108,7 @@ impl Host for MemoryHost {
             (λ _. Fails (part_of (held_of self.old role)) (part_of (held_of self.new role))) }
         ensures end { IfOk result (λ n. n ≡ 0 → IsAtEnd (part_of (held_of self.new role)).left) }
         ensures others { (other : Role) → other ≢ role → part_of (held_of self.new other) ≡ part_of (held_of self.old other) }
-        ensures exact { IsErr result ↔ IsNamed self.old.fails role Op.Read (held_of self.old role).calls.reads }
+        ensures exact { IsErr result ↔ NamesNext self.old role Op.Read }
         ensures size { IfOk result (λ n. n ≡ read_size self.old role (length buffer.old)) }
         ensures after { held_of self.new role ≡ after_read (held_of self.old role) result }
         ensures touched { Touches role self.old self.new }
@@ -127,7 +126,7 @@ impl Host for MemoryHost {
             (λ n. Adds (take n piece.now) (part_of (held_of self.old role)) (part_of (held_of self.new role)))
             (λ _. Fails (part_of (held_of self.old role)) (part_of (held_of self.new role))) }
         ensures others { (other : Role) → other ≢ role → part_of (held_of self.new other) ≡ part_of (held_of self.old other) }
-        ensures exact { IsErr result ↔ (IsNamed self.old.fails role Op.Write (held_of self.old role).calls.writes ⊎ IsFull (held_of self.old role)) }
+        ensures exact { IsErr result ↔ (NamesNext self.old role Op.Write ⊎ IsFull (held_of self.old role)) }
         ensures size { IfOk result (λ n. n ≡ write_size self.old role (length piece.now)) }
         ensures after { held_of self.new role ≡ after_write piece.now (held_of self.old role) result }
         ensures touched { Touches role self.old self.new }
@@ -143,7 +142,7 @@ impl Host for MemoryHost {
             (λ _. Finishes (part_of (held_of self.old role)) (part_of (held_of self.new role)))
             (λ _. Fails (part_of (held_of self.old role)) (part_of (held_of self.new role))) }
         ensures others { (other : Role) → other ≢ role → part_of (held_of self.new other) ≡ part_of (held_of self.old other) }
-        ensures exact { IsErr result ↔ IsNamed self.old.fails role Op.Finish (held_of self.old role).calls.finishes }
+        ensures exact { IsErr result ↔ NamesNext self.old role Op.Finish }
         ensures after { held_of self.new role ≡ after_finish (held_of self.old role) result }
         ensures touched { Touches role self.old self.new }
     {

@@ -1,3 +1,4 @@
+pub mod AsTheyStand
 pub mod ChainSetup
 pub mod Chains
 pub mod Exact

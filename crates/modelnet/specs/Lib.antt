@@ -1,6 +1,7 @@
 pub mod Answers
 pub mod Chain
 pub mod Exact
+pub mod Forms
 pub mod Order
 pub mod Parted
 pub mod PipeWord

@@ -5,6 +5,7 @@
 
 mod chain_setup;
 mod cursor;
+mod laws;
 mod order;
 mod pipe_word;
 mod plain;

@@ -1,6 +1,8 @@
 ghost use Rattle.std.specs.Prelude.{◌≡◌, ◌≤◌, false};
 ghost use Rattle.mn_edge.specs.declared.role.Role.{Role};
 
+mod bursts;
+
 use crate::plain::plain;
 use crate::status::Status;
 use crate::words_fault::{Opt, WordsFault};
@@ -172,11 +174,13 @@ const WORKED: &[Worked] = &[
 fn words_of(
     rt: &(impl Abort + AllocGlobal),
     trace: &'static str,
+    options: &[&'static str],
     pipes: &[&'static str],
 ) -> Vec<&'static str> {
     let front = ["chain", "--trace", trace, "--out", "o", "--report", "r"];
     let words: Result<Vec<&'static str>, _> = front
         .iter()
+        .chain(options)
         .chain(pipes)
         .copied()
         .collect(rt.alloc());
@@ -186,7 +190,7 @@ fn words_of(
 #[test]
 fn chains_worked_by_hand(rt: HostRuntime) {
     for worked in WORKED {
-        let words = words_of(&rt, "t", worked.pipes);
+        let words = words_of(&rt, "t", &[], worked.pipes);
         let mut host = host(&rt, worked.trace, &[], 4_096, 4_096);
         let status = plain(rt.alloc(), &words, &mut host);
         assert_eq!(rt; status, Status::Done, "{}", worked.name);
@@ -207,7 +211,7 @@ fn chains_worked_by_hand(rt: HostRuntime) {
 
 #[test]
 fn a_cut_record_is_refused_and_nothing_is_written(rt: HostRuntime) {
-    let words = words_of(&rt, "t", &[PIPE_A]);
+    let words = words_of(&rt, "t", &[], &[PIPE_A]);
     let (cut, _) = ONE_PACKET.split_at(ONE_PACKET.len() - 1);
     let mut host = host(&rt, cut, &[], 4_096, 4_096);
     let status = plain(rt.alloc(), &words, &mut host);
@@ -223,7 +227,7 @@ fn no_word_and_an_unknown_one_are_no_command(rt: HostRuntime) {
         let status = plain(rt.alloc(), words, &mut host);
         assert_eq!(rt; status, Status::BadWords(WordsFault::Command));
     }
-    let words = words_of(&rt, "t", &["8000000:5000:1001:0"]);
+    let words = words_of(&rt, "t", &[], &["8000000:5000:1001:0"]);
     let mut host = host(&rt, ONE_PACKET, &[], 4_096, 4_096);
     let status = plain(rt.alloc(), &words, &mut host);
     assert_eq!(rt; status, Status::BadWords(WordsFault::Value(Opt::Pipe)));
@@ -277,7 +281,7 @@ fn failing_calls_are_named_and_outputs_are_cut(rt: HostRuntime) {
         },
     ];
     for failing in &table {
-        let words = words_of(&rt, "t", &[PIPE_A]);
+        let words = words_of(&rt, "t", &[], &[PIPE_A]);
         let piece = failing.piece.max(1);
         let mut host = host(&rt, ONE_PACKET, failing.fails, piece, failing.room);
         let status = plain(rt.alloc(), &words, &mut host);
@@ -337,7 +341,7 @@ fn files_are_read_and_written(rt: HostRuntime) {
 
 #[test]
 fn a_missing_file_cannot_be_read(rt: HostRuntime) {
-    let words = words_of(&rt, "a_missing_file.pcap", &[PIPE_A]);
+    let words = words_of(&rt, "a_missing_file.pcap", &[], &[PIPE_A]);
     let mut host = RealHost::new(rt.clone().expect(&rt, "a second handle"));
     let status = plain(rt.alloc(), &words, &mut host);
     assert_eq!(rt; status, Status::ReadFault(Role::Trace));

@@ -12,7 +12,7 @@ use Rattle.pcap_io.specs.declared.packet.Packet.{Packet}
 use Rattle.pcap_io.specs.Capture.{Capture, IsLinkType}
 use Rattle.pcap_io.specs.Form.{magic, half, word}
 use Rattle.pcap_io.specs.Reading.{HasMagic, HasHeader, OpensWithRecord, captured, packet_of, after_record, Splits, Pcap}
-use Rattle.pcap_io.specs.Faults.{record_fault, HasRecordFault, IsFirstFault}
+use Rattle.pcap_io.specs.Faults.{record_fault, IsFirstFault}
 use Rattle.pcap_io.specs.Laws.{IsAnswered}
 use Rattle.pcap_io.proofs.Headers.{form_named, form_named-magic}
 use Rattle.pcap_io.proofs.OneReading.{first_behind}

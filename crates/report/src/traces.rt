@@ -1,35 +1,19 @@
-ghost use Rattle.std.specs.Prelude.{◌≡◌, ◌≢◌, ◌*◌, ◌^◌, ◌<◌, ◌≤◌, length, All, AllPairs, IfOk, IsSome, find, ◌==◌};
-ghost use Rattle.std.specs.Option.{option_copied};
+ghost use Rattle.std.specs.Prelude.{◌≡◌, ◌≢◌, ◌*◌, ◌^◌, ◌<◌, ◌≤◌, length, All, AllPairs, IfOk, IsSome};
 ghost use Rattle.mn_base.specs.Times.{output_time};
 ghost use Rattle.journal.specs.SetupView.{packet_of, len_of};
 ghost use Rattle.report.specs.Traces.{trace_of, packet_left};
 
-use journal::{PacketPlan, Setup};
+use journal::Setup;
 use mn_base::NoMemory;
 use pcap_io::{Packet, Trace};
 use settle::Leaving;
 use std::alloc::Global;
 
-/// The packet of a number, if it is there. Packets stand by their numbers, so it takes as many steps as their count has
-/// binary digits.
-fn find_packet(packets: &[PacketPlan], number: u32) -> Option<&PacketPlan>
-    requires rise { AllPairs (λ p q. p.number < q.number) packets.now }
-    ensures { option_copied result ≡ find (λ p. p.number == number) packets.now }
-{
-    match packets.binary_search_by_key(&number, |packet| packet.number) {
-        Ok(place) => Some(&packets[place]),
-        Err(_) => None,
-    }
-}
-
 /// The original length of a packet of the setup, in bytes.
 fn original_len(setup: &Setup, number: u32) -> u32
     ensures { result ≡ len_of setup.now number }
 {
-    match find_packet(&setup.parts().packets, number) {
-        Some(packet) => packet.len,
-        None => 0,
-    }
+    setup.find(number).map_or(0, |packet| packet.len)
 }
 
 /// The trace of the packets that left, in the given order: each with its captured bytes and its original length, at the

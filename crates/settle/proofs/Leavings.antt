@@ -1,5 +1,5 @@
 -- What holds of each packet that left, by the outcome.
-use Rattle.std.proofs.Common.{◌≡◌, ◌≢◌, ◌⊎◌, ℕ, suc, ◌<◌, ◌≤◌, true, false, eqb, List, [], ◌∷◌, length, find, IsSome, filter_map, AllPairs, All, refl, ap, inl, inr, arith, ⊎_elim}
+use Rattle.std.proofs.Common.{◌≡◌, ◌≢◌, ℕ, true, false, eqb, List, [], ◌∷◌, find, IsSome, filter_map, AllPairs, All, refl, ap, inl, inr, arith, ⊎_elim}
 use Rattle.std.specs.List.{zip, cons_option}
 use Rattle.std.proofs.lemmas.Bool.{eq-eqb}
 use Rattle.std.proofs.lemmas.Bool.Decides.{eqb_tells}

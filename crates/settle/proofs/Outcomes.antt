@@ -1,5 +1,5 @@
 -- What was gathered is the outcome.
-use Rattle.std.proofs.Common.{◌≡◌, ℕ, ◌<◌, List, [], ◌∷◌, length, map, filter_map, AllPairs, refl, sym, ap, ◌∙◌, subst}
+use Rattle.std.proofs.Common.{◌≡◌, ℕ, List, [], ◌∷◌, length, map, filter_map, refl, ap, ◌∙◌, subst}
 use Rattle.std.specs.List.{zip, cons_option, range_with_len}
 use Rattle.std.specs.List.Sorted.{IsPermutation, IsSortedByKey}
 use Rattle.journal.specs.declared.setup.PacketPlan.{PacketPlan}
