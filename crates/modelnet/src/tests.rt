@@ -11,24 +11,43 @@ use pcap_io::PcapFault;
 use std::fs;
 use std::process::Abort;
 
-/// Pipe A: 1,000 bytes take 10 ticks of 100,000 ns, and the latency is 50 ticks.
-const PIPE_A: &str = "8000000:5000:50:0";
+/// A chain of one pipe, on which 1,000 bytes take 10 ticks of 100,000 ns; its latency is 50 ticks.
+const ONE_PIPE: &str = "chain --trace t --out o --report r 8000000:5000:50:0";
 
 /// A capture of one packet of 1,000 bytes, of which four were captured.
-const ONE_PACKET: &[u8] = b"\x4d\x3c\xb2\xa1\x02\x00\x04\x00\x00\x00\x00\x00\x00\x00\x00\x00\
-    \x00\x00\x04\x00\x65\x00\x00\x00\
-    \x00\x00\x00\x00\x00\x00\x00\x00\x04\x00\x00\x00\xe8\x03\x00\x00\
-    \xde\xad\xbe\xef";
+const ONE_PACKET: [u8; 44] = [
+    0x4d, 0x3c, 0xb2, 0xa1, 2, 0, 4, 0, 0, 0, 0, 0, 0, 0, 0, 0, 0, 0, 4, 0, 0x65, 0, 0, 0, //
+    0, 0, 0, 0, 0, 0, 0, 0, 4, 0, 0, 0, 0xe8, 3, 0, 0, 0xde, 0xad, 0xbe, 0xef,
+];
 
 /// What leaves of it: 60 ticks are 6,000,000 ns.
-const ONE_PACKET_OUT: &[u8] = b"\x4d\x3c\xb2\xa1\x02\x00\x04\x00\x00\x00\x00\x00\x00\x00\x00\x00\
-    \x00\x00\x04\x00\x65\x00\x00\x00\
-    \x00\x00\x00\x00\x80\x8d\x5b\x00\x04\x00\x00\x00\xe8\x03\x00\x00\
-    \xde\xad\xbe\xef";
+const ONE_PACKET_OUT: [u8; 44] = [
+    0x4d, 0x3c, 0xb2, 0xa1, 2, 0, 4, 0, 0, 0, 0, 0, 0, 0, 0, 0, 0, 0, 4, 0, 0x65, 0, 0, 0, //
+    0, 0, 0, 0, 0x80, 0x8d, 0x5b, 0, 4, 0, 0, 0, 0xe8, 3, 0, 0, 0xde, 0xad, 0xbe, 0xef,
+];
 
-const ONE_PACKET_REPORT: &[u8] = b"modelnet report 1\n\
+const ONE_PACKET_REPORT: &str = "modelnet report 1\n\
     packets 1 bound 1 unbound 0 left 1 dropped 0\n\
     pipe 0 passed 1 lost 0 full 0\n";
+
+/// Big-endian and in microseconds, its two packets out of time order; the base is 10 s.
+const BIG_ENDIAN: [u8; 58] = [
+    0xa1, 0xb2, 0xc3, 0xd4, 0, 2, 0, 4, 0, 0, 0, 0, 0, 0, 0, 0, 0, 0, 0xff, 0xff, 0, 0, 0, 0x65, //
+    0, 0, 0, 0x0a, 0, 0, 3, 0xe8, 0, 0, 0, 1, 0, 0, 3, 0xe8, 0xaa, //
+    0, 0, 0, 0x0a, 0, 0, 0, 0, 0, 0, 0, 1, 0, 0, 3, 0xe8, 0xbb,
+];
+
+/// Packet 1 leaves at tick 60, packet 0 at tick 70.
+const BIG_ENDIAN_OUT: [u8; 58] = [
+    0x4d, 0x3c, 0xb2, 0xa1, 2, 0, 4, 0, 0, 0, 0, 0, 0, 0, 0, 0, 0, 0, 4, 0, 0x65, 0, 0, 0, //
+    0x0a, 0, 0, 0, 0x80, 0x8d, 0x5b, 0, 1, 0, 0, 0, 0xe8, 3, 0, 0, 0xbb, //
+    0x0a, 0, 0, 0, 0xc0, 0xcf, 0x6a, 0, 1, 0, 0, 0, 0xe8, 3, 0, 0, 0xaa,
+];
+
+fn words_in<'a>(rt: &(impl Abort + AllocGlobal), line: &'a str) -> Vec<&'a str> {
+    let words: Result<Vec<&str>, _> = line.split(' ').collect(rt.alloc());
+    words.expect(rt, "memory for words")
+}
 
 fn host(
     rt: &(impl Abort + AllocGlobal),
@@ -44,304 +63,248 @@ fn host(
     host.expect(rt, "memory for a host")
 }
 
-/// A chain of these pipes, its trace worked out by hand, and what it writes.
-struct Worked {
-    name: &'static str,
-    pipes: &'static [&'static str],
-    trace: &'static [u8],
-    out: &'static [u8],
-    report: &'static [u8],
-}
-
-const WORKED: &[Worked] = &[
-    Worked {
-        name: "a header alone",
-        pipes: &["8000000:5000:50:0"],
-        trace: b"\x4d\x3c\xb2\xa1\x02\x00\x04\x00\x00\x00\x00\x00\x00\x00\x00\x00\
-            \x00\x00\x04\x00\x65\x00\x00\x00",
-        out: b"\x4d\x3c\xb2\xa1\x02\x00\x04\x00\x00\x00\x00\x00\x00\x00\x00\x00\
-            \x00\x00\x04\x00\x65\x00\x00\x00",
-        report: b"modelnet report 1\n\
-            packets 0 bound 0 unbound 0 left 0 dropped 0\n",
-    },
-    Worked {
-        name: "two packets of length 0 leave at ticks 50 and 57",
-        pipes: &["8000000:5000:50:0"],
-        trace: b"\x4d\x3c\xb2\xa1\x02\x00\x04\x00\x00\x00\x00\x00\x00\x00\x00\x00\
-            \x00\x00\x04\x00\x65\x00\x00\x00\
-            \x00\x00\x00\x00\x00\x00\x00\x00\x00\x00\x00\x00\x00\x00\x00\x00\
-            \x00\x00\x00\x00\x60\xae\x0a\x00\x00\x00\x00\x00\x00\x00\x00\x00",
-        out: b"\x4d\x3c\xb2\xa1\x02\x00\x04\x00\x00\x00\x00\x00\x00\x00\x00\x00\
-            \x00\x00\x04\x00\x65\x00\x00\x00\
-            \x00\x00\x00\x00\x40\x4b\x4c\x00\x00\x00\x00\x00\x00\x00\x00\x00\
-            \x00\x00\x00\x00\xa0\xf9\x56\x00\x00\x00\x00\x00\x00\x00\x00\x00",
-        report: b"modelnet report 1\n\
-            packets 2 bound 2 unbound 0 left 2 dropped 0\n\
-            pipe 0 passed 2 lost 0 full 0\n",
-    },
-    Worked {
-        name: "two packets of one tick leave at ticks 60 and 70",
-        pipes: &["8000000:5000:50:0"],
-        trace: b"\x4d\x3c\xb2\xa1\x02\x00\x04\x00\x00\x00\x00\x00\x00\x00\x00\x00\
-            \x00\x00\x04\x00\x65\x00\x00\x00\
-            \x00\x00\x00\x00\x00\x00\x00\x00\x01\x00\x00\x00\xe8\x03\x00\x00\
-            \x61\
-            \x00\x00\x00\x00\x00\x00\x00\x00\x01\x00\x00\x00\xe8\x03\x00\x00\
-            \x62",
-        out: b"\x4d\x3c\xb2\xa1\x02\x00\x04\x00\x00\x00\x00\x00\x00\x00\x00\x00\
-            \x00\x00\x04\x00\x65\x00\x00\x00\
-            \x00\x00\x00\x00\x80\x8d\x5b\x00\x01\x00\x00\x00\xe8\x03\x00\x00\
-            \x61\
-            \x00\x00\x00\x00\xc0\xcf\x6a\x00\x01\x00\x00\x00\xe8\x03\x00\x00\
-            \x62",
-        report: b"modelnet report 1\n\
-            packets 2 bound 2 unbound 0 left 2 dropped 0\n\
-            pipe 0 passed 2 lost 0 full 0\n",
-    },
-    Worked {
-        name: "a finish exactly at the tick no longer waits",
-        pipes: &["8000000:5000:1:0"],
-        trace: b"\x4d\x3c\xb2\xa1\x02\x00\x04\x00\x00\x00\x00\x00\x00\x00\x00\x00\
-            \x00\x00\x04\x00\x65\x00\x00\x00\
-            \x00\x00\x00\x00\x00\x00\x00\x00\x01\x00\x00\x00\xe8\x03\x00\x00\
-            \x61\
-            \x00\x00\x00\x00\xa0\xbb\x0d\x00\x01\x00\x00\x00\xe8\x03\x00\x00\
-            \x62\
-            \x00\x00\x00\x00\x40\x42\x0f\x00\x01\x00\x00\x00\xe8\x03\x00\x00\
-            \x63",
-        out: b"\x4d\x3c\xb2\xa1\x02\x00\x04\x00\x00\x00\x00\x00\x00\x00\x00\x00\
-            \x00\x00\x04\x00\x65\x00\x00\x00\
-            \x00\x00\x00\x00\x80\x8d\x5b\x00\x01\x00\x00\x00\xe8\x03\x00\x00\
-            \x61\
-            \x00\x00\x00\x00\xc0\xcf\x6a\x00\x01\x00\x00\x00\xe8\x03\x00\x00\
-            \x63",
-        report: b"modelnet report 1\n\
-            packets 3 bound 3 unbound 0 left 2 dropped 1\n\
-            pipe 0 passed 2 lost 0 full 1\n\
-            drop 1 pipe 0 tick 9 cause full\n",
-    },
-    Worked {
-        name: "a second pipe that keeps nothing",
-        pipes: &["8000000:5000:50:0", "8000000:5000:50:1000000"],
-        trace: b"\x4d\x3c\xb2\xa1\x02\x00\x04\x00\x00\x00\x00\x00\x00\x00\x00\x00\
-            \x00\x00\x04\x00\x65\x00\x00\x00\
-            \x00\x00\x00\x00\x00\x00\x00\x00\x01\x00\x00\x00\xe8\x03\x00\x00\
-            \x61",
-        out: b"\x4d\x3c\xb2\xa1\x02\x00\x04\x00\x00\x00\x00\x00\x00\x00\x00\x00\
-            \x00\x00\x04\x00\x65\x00\x00\x00",
-        report: b"modelnet report 1\n\
-            packets 1 bound 1 unbound 0 left 0 dropped 1\n\
-            pipe 0 passed 1 lost 0 full 0\n\
-            pipe 1 passed 0 lost 1 full 0\n\
-            drop 0 pipe 1 tick 60 cause loss\n",
-    },
-    Worked {
-        name: "no latency is one tick",
-        pipes: &["8000000:0:50:0"],
-        trace: b"\x4d\x3c\xb2\xa1\x02\x00\x04\x00\x00\x00\x00\x00\x00\x00\x00\x00\
-            \x00\x00\x04\x00\x65\x00\x00\x00\
-            \x00\x00\x00\x00\x00\x00\x00\x00\x01\x00\x00\x00\xe8\x03\x00\x00\
-            \x61",
-        out: b"\x4d\x3c\xb2\xa1\x02\x00\x04\x00\x00\x00\x00\x00\x00\x00\x00\x00\
-            \x00\x00\x04\x00\x65\x00\x00\x00\
-            \x00\x00\x00\x00\xe0\xc8\x10\x00\x01\x00\x00\x00\xe8\x03\x00\x00\
-            \x61",
-        report: b"modelnet report 1\n\
-            packets 1 bound 1 unbound 0 left 1 dropped 0\n\
-            pipe 0 passed 1 lost 0 full 0\n",
-    },
-    Worked {
-        name: "big-endian microseconds out of time order",
-        pipes: &["8000000:5000:50:0"],
-        trace: b"\xa1\xb2\xc3\xd4\x00\x02\x00\x04\x00\x00\x00\x00\x00\x00\x00\x00\
-            \x00\x00\xff\xff\x00\x00\x00\x65\
-            \x00\x00\x00\x0a\x00\x00\x03\xe8\x00\x00\x00\x01\x00\x00\x03\xe8\
-            \xaa\
-            \x00\x00\x00\x0a\x00\x00\x00\x00\x00\x00\x00\x01\x00\x00\x03\xe8\
-            \xbb",
-        out: b"\x4d\x3c\xb2\xa1\x02\x00\x04\x00\x00\x00\x00\x00\x00\x00\x00\x00\
-            \x00\x00\x04\x00\x65\x00\x00\x00\
-            \x0a\x00\x00\x00\x80\x8d\x5b\x00\x01\x00\x00\x00\xe8\x03\x00\x00\
-            \xbb\
-            \x0a\x00\x00\x00\xc0\xcf\x6a\x00\x01\x00\x00\x00\xe8\x03\x00\x00\
-            \xaa",
-        report: b"modelnet report 1\n\
-            packets 2 bound 2 unbound 0 left 2 dropped 0\n\
-            pipe 0 passed 2 lost 0 full 0\n",
-    },
-];
-
-fn words_of(
+/// Runs a command line on a trace, and compares what is written.
+fn assert_writes(
     rt: &(impl Abort + AllocGlobal),
-    trace: &'static str,
-    options: &[&'static str],
-    pipes: &[&'static str],
-) -> Vec<&'static str> {
-    let front = ["chain", "--trace", trace, "--out", "o", "--report", "r"];
-    let words: Result<Vec<&'static str>, _> = front
-        .iter()
-        .chain(options)
-        .chain(pipes)
-        .copied()
-        .collect(rt.alloc());
-    words.expect(rt, "memory for words")
-}
-
-#[test]
-fn chains_worked_by_hand(rt: HostRuntime) {
-    for worked in WORKED {
-        let words = words_of(&rt, "t", &[], worked.pipes);
-        let mut host = host(&rt, worked.trace, &[], 4_096, 4_096);
-        let status = plain(rt.alloc(), &words, &mut host);
-        assert_eq!(rt; status, Status::Done, "{}", worked.name);
-        assert_eq!(rt;
-            host.written_bytes(Role::Out),
-            worked.out,
-            "{}",
-            worked.name
-        );
-        assert_eq!(rt;
-            host.written_bytes(Role::Report),
-            worked.report,
-            "{}",
-            worked.name
-        );
-    }
-}
-
-#[test]
-fn a_cut_record_is_refused_and_nothing_is_written(rt: HostRuntime) {
-    let words = words_of(&rt, "t", &[], &[PIPE_A]);
-    let (cut, _) = ONE_PACKET.split_at(ONE_PACKET.len() - 1);
-    let mut host = host(&rt, cut, &[], 4_096, 4_096);
+    line: &str,
+    trace: &[u8],
+    out: &[u8],
+    report: &str,
+) {
+    let words = words_in(rt, line);
+    let mut host = host(rt, trace, &[], 4_096, 4_096);
     let status = plain(rt.alloc(), &words, &mut host);
-    assert_eq!(rt; status, Status::BadTrace(PcapFault::Truncated(0)));
-    assert_eq!(rt; host.written_bytes(Role::Out).len(), 0);
+    assert_eq!(rt; status, Status::Done);
+    assert_eq!(rt; host.written_bytes(Role::Out), out);
+    assert_eq!(rt; host.written_bytes(Role::Report), report.as_bytes());
+}
+
+/// A capture in ns of packets, each as (time in ns, original length), of which no byte was captured.
+fn capture(rt: &(impl Abort + AllocGlobal), packets: &[(u64, u32)]) -> Vec<u8> {
+    let (header, _) = ONE_PACKET.split_at(24);
+    let mut text = Vec::from_slice(rt.alloc(), header).expect(rt, "memory");
+    for (time_ns, original) in packets {
+        let seconds = (*time_ns / 1_000_000_000).min(u64::from(u32::MAX)) as u32;
+        let fraction = (*time_ns % 1_000_000_000) as u32;
+        push_number(rt, &mut text, seconds);
+        push_number(rt, &mut text, fraction);
+        push_number(rt, &mut text, 0);
+        push_number(rt, &mut text, *original);
+    }
+    text
+}
+
+fn push_number(rt: &impl Abort, text: &mut Vec<u8>, number: u32) {
+    let bytes = number.to_le_bytes();
+    text.extend_from_slice(&bytes).expect(rt, "memory");
+}
+
+/// The same for packets of which no byte was captured: those that come, and those that leave, in order.
+fn assert_leave(
+    rt: &(impl Abort + AllocGlobal),
+    line: &str,
+    packets: &[(u64, u32)],
+    left: &[(u64, u32)],
+    report: &str,
+) {
+    let trace = capture(rt, packets);
+    let out = capture(rt, left);
+    assert_writes(rt, line, &trace, &out, report);
+}
+
+#[test]
+fn one_packet_leaves_at_tick_60(rt: HostRuntime) {
+    assert_writes(
+        &rt,
+        ONE_PIPE,
+        &ONE_PACKET,
+        &ONE_PACKET_OUT,
+        ONE_PACKET_REPORT,
+    );
+}
+
+#[test]
+fn a_header_alone_is_an_empty_trace(rt: HostRuntime) {
+    assert_leave(
+        &rt,
+        "chain --trace t --out o --report r 8000000:5000:50:0",
+        &[],
+        &[],
+        "modelnet report 1\n\
+        packets 0 bound 0 unbound 0 left 0 dropped 0\n",
+    );
+}
+
+#[test]
+fn empty_packets_take_the_latency_alone(rt: HostRuntime) {
+    assert_leave(
+        &rt,
+        "chain --trace t --out o --report r 8000000:5000:50:0",
+        &[(0, 0), (700_000, 0)],
+        &[(5_000_000, 0), (5_700_000, 0)],
+        "modelnet report 1\n\
+        packets 2 bound 2 unbound 0 left 2 dropped 0\n\
+        pipe 0 passed 2 lost 0 full 0\n",
+    );
+}
+
+#[test]
+fn the_second_of_two_packets_waits(rt: HostRuntime) {
+    assert_leave(
+        &rt,
+        "chain --trace t --out o --report r 8000000:5000:50:0",
+        &[(0, 1000), (0, 1000)],
+        &[(6_000_000, 1000), (7_000_000, 1000)],
+        "modelnet report 1\n\
+        packets 2 bound 2 unbound 0 left 2 dropped 0\n\
+        pipe 0 passed 2 lost 0 full 0\n",
+    );
+}
+
+#[test]
+fn a_finish_exactly_at_the_tick_waits_no_longer(rt: HostRuntime) {
+    assert_leave(
+        &rt,
+        "chain --trace t --out o --report r 8000000:5000:1:0",
+        &[(0, 1000), (900_000, 1000), (1_000_000, 1000)],
+        &[(6_000_000, 1000), (7_000_000, 1000)],
+        "modelnet report 1\n\
+        packets 3 bound 3 unbound 0 left 2 dropped 1\n\
+        pipe 0 passed 2 lost 0 full 1\n\
+        drop 1 pipe 0 tick 9 cause full\n",
+    );
+}
+
+#[test]
+fn a_second_pipe_that_keeps_nothing_loses_all(rt: HostRuntime) {
+    assert_leave(
+        &rt,
+        "chain --trace t --out o --report r 8000000:5000:50:0 8000000:5000:50:1000000",
+        &[(0, 1000)],
+        &[],
+        "modelnet report 1\n\
+        packets 1 bound 1 unbound 0 left 0 dropped 1\n\
+        pipe 0 passed 1 lost 0 full 0\n\
+        pipe 1 passed 0 lost 1 full 0\n\
+        drop 0 pipe 1 tick 60 cause loss\n",
+    );
+}
+
+#[test]
+fn no_latency_is_one_tick(rt: HostRuntime) {
+    assert_leave(
+        &rt,
+        "chain --trace t --out o --report r 8000000:0:50:0",
+        &[(0, 1000)],
+        &[(1_100_000, 1000)],
+        "modelnet report 1\n\
+        packets 1 bound 1 unbound 0 left 1 dropped 0\n\
+        pipe 0 passed 1 lost 0 full 0\n",
+    );
+}
+
+#[test]
+fn packets_out_of_time_order_enter_by_their_times(rt: HostRuntime) {
+    let report = "modelnet report 1\n\
+        packets 2 bound 2 unbound 0 left 2 dropped 0\n\
+        pipe 0 passed 2 lost 0 full 0\n";
+    assert_writes(&rt, ONE_PIPE, &BIG_ENDIAN, &BIG_ENDIAN_OUT, report);
+}
+
+/// Runs a command line over a host whose calls may fail, and compares how it ends and what stands in the trace out.
+fn assert_stops(
+    rt: &(impl Abort + AllocGlobal),
+    line: &str,
+    trace: &[u8],
+    fails: &[Fail],
+    room: usize,
+    status: Status,
+    written: usize,
+) {
+    let words = words_in(rt, line);
+    let mut host = host(rt, trace, fails, 8, room);
+    assert_eq!(rt; plain(rt.alloc(), &words, &mut host), status);
+    let out = host.written_bytes(Role::Out);
+    assert_eq!(rt; out.len(), written);
+    assert!(rt; ONE_PACKET_OUT.starts_with(out));
     assert_eq!(rt; host.written_bytes(Role::Report).len(), 0);
 }
 
 #[test]
-fn no_word_and_an_unknown_one_are_no_command(rt: HostRuntime) {
-    for words in [[].as_slice(), ["emulate"].as_slice()] {
-        let mut host = host(&rt, ONE_PACKET, &[], 4_096, 4_096);
-        let status = plain(rt.alloc(), words, &mut host);
-        assert_eq!(rt; status, Status::BadWords(WordsFault::Command));
-    }
-    let words = words_of(&rt, "t", &[], &["8000000:5000:1001:0"]);
-    let mut host = host(&rt, ONE_PACKET, &[], 4_096, 4_096);
-    let status = plain(rt.alloc(), &words, &mut host);
-    assert_eq!(rt; status, Status::BadWords(WordsFault::Value(Opt::Pipe)));
+fn a_cut_record_is_refused_and_nothing_is_written(rt: HostRuntime) {
+    let (cut, _) = ONE_PACKET.split_at(ONE_PACKET.len() - 1);
+    let status = Status::BadTrace(PcapFault::Truncated(0));
+    assert_stops(&rt, ONE_PIPE, cut, &[], 4_096, status, 0);
 }
-
-/// A host whose call fails, how the run then ends, and how many bytes stand in the trace out.
-#[derive(Drop)]
-struct Failing {
-    fails: &'static [Fail],
-    piece: usize,
-    room: usize,
-    status: Status,
-    written: usize,
-}
-
-const SECOND_WRITE: &[Fail] = &[Fail {
-    role: Role::Out,
-    op: Op::Write,
-    k: 1,
-}];
-
-const FIRST_READ: &[Fail] = &[Fail {
-    role: Role::Trace,
-    op: Op::Read,
-    k: 0,
-}];
 
 #[test]
-fn failing_calls_are_named_and_outputs_are_cut(rt: HostRuntime) {
-    let table = [
-        Failing {
-            fails: SECOND_WRITE,
-            piece: 8,
-            room: 4_096,
-            status: Status::WriteFault(Role::Out),
-            written: 8,
-        },
-        Failing {
-            fails: FIRST_READ,
-            piece: 8,
-            room: 4_096,
-            status: Status::ReadFault(Role::Trace),
-            written: 0,
-        },
-        Failing {
-            fails: &[],
-            piece: 8,
-            room: 8,
-            status: Status::WriteFault(Role::Out),
-            written: 8,
-        },
-    ];
-    for failing in &table {
-        let words = words_of(&rt, "t", &[], &[PIPE_A]);
-        let piece = failing.piece.max(1);
-        let mut host = host(&rt, ONE_PACKET, failing.fails, piece, failing.room);
-        let status = plain(rt.alloc(), &words, &mut host);
-        assert_eq!(rt; status, failing.status);
-        let written = host.written_bytes(Role::Out);
-        assert_eq!(rt; written.len(), failing.written);
-        assert!(rt; ONE_PACKET_OUT.starts_with(written));
-        assert_eq!(rt; host.written_bytes(Role::Report).len(), 0);
-    }
+fn words_that_are_no_order_are_refused(rt: HostRuntime) {
+    let mut host = host(&rt, &ONE_PACKET, &[], 8, 4_096);
+    let status = plain(rt.alloc(), &[], &mut host);
+    assert_eq!(rt; status, Status::BadWords(WordsFault::Command));
+    let command = Status::BadWords(WordsFault::Command);
+    assert_stops(&rt, "emulate", &ONE_PACKET, &[], 4_096, command, 0);
+    let form = Status::BadWords(WordsFault::Form);
+    assert_stops(&rt, "chain --trace t", &ONE_PACKET, &[], 4_096, form, 0);
+    let line = "chain --trace t --out o --report r 8000000:5000:1001:0";
+    let value = Status::BadWords(WordsFault::Value(Opt::Pipe));
+    assert_stops(&rt, line, &ONE_PACKET, &[], 4_096, value, 0);
+}
+
+#[test]
+fn a_failed_write_leaves_a_front_of_the_trace_out(rt: HostRuntime) {
+    let second = Fail {
+        role: Role::Out,
+        op: Op::Write,
+        k: 1,
+    };
+    let status = Status::WriteFault(Role::Out);
+    assert_stops(&rt, ONE_PIPE, &ONE_PACKET, &[second], 4_096, status, 8);
+    assert_stops(&rt, ONE_PIPE, &ONE_PACKET, &[], 8, status, 8);
+}
+
+#[test]
+fn a_failed_read_is_named_by_its_role(rt: HostRuntime) {
+    let first = Fail {
+        role: Role::Trace,
+        op: Op::Read,
+        k: 0,
+    };
+    let status = Status::ReadFault(Role::Trace);
+    assert_stops(&rt, ONE_PIPE, &ONE_PACKET, &[first], 4_096, status, 0);
 }
 
 #[test]
 fn a_name_of_4097_bytes_cannot_be_read(rt: HostRuntime) {
-    let mut name = String::new(rt.alloc());
+    let mut line = String::from_str(rt.alloc(), "chain --trace ").expect(&rt, "memory");
     for _ in 0..4_097 {
-        name.push('n').expect(&rt, "memory for a name");
+        line.push('n').expect(&rt, "memory");
     }
-    let words = [
-        "chain",
-        "--trace",
-        name.as_str(),
-        "--out",
-        "o",
-        "--report",
-        "r",
-        PIPE_A,
-    ];
-    let mut host = host(&rt, ONE_PACKET, &[], 4_096, 4_096);
-    let status = plain(rt.alloc(), &words, &mut host);
-    assert_eq!(rt; status, Status::ReadFault(Role::Trace));
+    line.push_str(" --out o --report r 8000000:5000:50:0")
+        .expect(&rt, "memory");
+    let status = Status::ReadFault(Role::Trace);
+    assert_stops(&rt, line.as_str(), &ONE_PACKET, &[], 4_096, status, 0);
 }
 
 #[test]
 fn files_are_read_and_written(rt: HostRuntime) {
-    fs::write(&rt, "files_are_read_and_written.pcap", ONE_PACKET).expect(
-        &rt,
-        "a folder to write to",
-    );
-    let words = [
-        "chain",
-        "--trace",
-        "files_are_read_and_written.pcap",
-        "--out",
-        "files_are_read_and_written.out",
-        "--report",
-        "files_are_read_and_written.txt",
-        PIPE_A,
-    ];
+    fs::write(&rt, "chain_in.pcap", &ONE_PACKET).expect(&rt, "a folder to write to");
+    let line =
+        "chain --trace chain_in.pcap --out chain_out.pcap --report chain.txt 8000000:5000:50:0";
+    let words = words_in(&rt, line);
     let mut host = RealHost::new(rt.clone().expect(&rt, "a second handle"));
     let status = plain(rt.alloc(), &words, &mut host);
     assert_eq!(rt; status, Status::Done);
-    let out = fs::read(&rt, "files_are_read_and_written.out").expect(&rt, "the trace out");
-    assert_eq!(rt; out.as_slice(), ONE_PACKET_OUT);
-    let report = fs::read(&rt, "files_are_read_and_written.txt").expect(&rt, "the report");
-    assert_eq!(rt; report.as_slice(), ONE_PACKET_REPORT);
+    let out = fs::read(&rt, "chain_out.pcap").expect(&rt, "the trace out");
+    assert_eq!(rt; out.as_slice(), ONE_PACKET_OUT.as_slice());
+    let report = fs::read(&rt, "chain.txt").expect(&rt, "the report");
+    assert_eq!(rt; report.as_slice(), ONE_PACKET_REPORT.as_bytes());
 }
 
 #[test]
 fn a_missing_file_cannot_be_read(rt: HostRuntime) {
-    let words = words_of(&rt, "a_missing_file.pcap", &[], &[PIPE_A]);
+    let line = "chain --trace no_such_file.pcap --out o --report r 8000000:5000:50:0";
+    let words = words_in(&rt, line);
     let mut host = RealHost::new(rt.clone().expect(&rt, "a second handle"));
     let status = plain(rt.alloc(), &words, &mut host);
     assert_eq!(rt; status, Status::ReadFault(Role::Trace));
