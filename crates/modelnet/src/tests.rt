@@ -1,5 +1,6 @@
 ghost use Rattle.std.specs.Prelude.{◌≡◌, ◌≤◌, false};
 ghost use Rattle.mn_edge.specs.declared.role.Role.{Role};
+ghost use Rattle.mn_edge.specs.Memory.{held_of};
 
 mod bursts;
 
@@ -57,7 +58,7 @@ fn host(
     room: usize,
 ) -> MemoryHost
     requires { 1 ≤ piece }
-    ensures { (role : Role) → (MemoryHost.part result role).active ≡ false }
+    ensures { (role : Role) → (held_of result role).active ≡ false }
 {
     let host = MemoryHost::new(rt.alloc(), &[], trace, &[], fails, piece, room);
     host.expect(rt, "memory for a host")
