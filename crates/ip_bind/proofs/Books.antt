@@ -43,7 +43,7 @@ node_skipped nodes n q within none =
     ∙ ap (λ b. option_or (node_with_address (take n nodes) q) (cond b (Some n) None)) has_not
     ∙ or_none _)
 
-address_is : (o : Option ℕ) (a : ℕ) → option_map_or (λ x. x == a) o false ≡ true → o ≡ Some a
+pub address_is : (o : Option ℕ) (a : ℕ) → option_map_or (λ x. x == a) o false ≡ true → o ≡ Some a
 address_is None a e = cc
 address_is (Some x) a e = let same : x ≡ a = grind (arith, nat_tests, e) in ap Some same
 

@@ -1,2 +1,3 @@
 pub mod Books
 pub mod Frames
+pub mod Laws

@@ -5,6 +5,7 @@
 
 mod book;
 mod frames;
+pub mod laws;
 
 pub use book::AddressBook;
 pub use frames::addresses;

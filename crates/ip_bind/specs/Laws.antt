@@ -1,0 +1,14 @@
+-- What the law says.
+use Rattle.std.specs.Prelude.{◌≡◌, ◌↔◌, ℕ, List, Option, Some, slice_get}
+use Rattle.std.specs.Option.{option_and_then}
+use Rattle.topo.specs.declared.parts.Node.{Node}
+use Rattle.topo.specs.Topologies.{Graph, IsTopology}
+use Rattle.ip_bind.specs.Books.{node_with_address}
+
+-- the address of node n, if there is such a node and it has one
+abbrev pub address_of_node : List Node → ℕ → Option ℕ
+address_of_node nodes n = option_and_then (λ node. node.address) (slice_get nodes n)
+
+-- in a topology an address finds node n exactly where node n has it
+abbrev pub AddressNamesNode : Type 0
+AddressNamesNode = (t : Graph) → IsTopology t → (address n : ℕ) → (node_with_address t.nodes address ≡ Some n) ↔ (address_of_node t.nodes n ≡ Some address)
