@@ -1,0 +1,3 @@
+pub mod Lexed
+pub mod PieceLengths
+pub mod OneReading

@@ -1,0 +1,46 @@
+-- The tokens of a text, and the place of its first fault.
+use Rattle.std.specs.Prelude.{◌≡◌, ◌≢◌, ℕ, ◌+◌, List, [], ◌∷◌, ◌++◌, None}
+use Rattle.std.specs.Option.{option_map_or}
+use Rattle.gml_lex.specs.declared.kinds.TokenKind.{TokenKind}
+use Rattle.gml_lex.specs.declared.kinds.Token.{Token}
+use Rattle.gml_lex.specs.declared.pieces.Piece.{Piece}
+use Rattle.gml_lex.specs.Pieces.{piece_at, Pieces, place_behind}
+
+abbrev pub token : ℕ → ℕ → TokenKind → Token
+token start end k = record { kind = k; start = start; end = end }
+
+-- the token that a piece is, if it is one, where it begins at a place
+abbrev pub token_of : ℕ → Piece → List Token
+token_of place p = option_map_or (λ k. token place (place + p.len) k ∷ []) p.kind []
+
+-- the tokens among pieces that begin at a place, in order, with their kinds and spans
+abbrev pub tokens_of : ℕ → List Piece → List Token
+tokens_of place [] = []
+tokens_of place (p ∷ pieces) = token_of place p ++ tokens_of (place + p.len) pieces
+
+-- the whole text is pieces, and these are the tokens among them
+pub record AreTokens (text : List ℕ) (tokens : List Token) : Type 0 where
+  pub pieces : List Piece
+  pub whole : Pieces text pieces []
+  pub tokens_are : tokens ≡ tokens_of 0 pieces
+
+-- pieces lead to the place, and no piece begins there though bytes are left
+pub record IsLexFault (text : List ℕ) (place : ℕ) : Type 0 where
+  pub pieces : List Piece
+  pub rest : List ℕ
+  pub front : Pieces text pieces rest
+  pub more : rest ≢ []
+  pub stuck : piece_at rest ≡ None
+  pub place_is : place ≡ place_behind 0 pieces
+
+-- a text has tokens or a fault, and not both
+abbrev pub TokensOrFault : Type 0
+TokensOrFault = (text : List ℕ) (tokens : List Token) (place : ℕ) → AreTokens text tokens → IsLexFault text place → ⊥
+
+-- a text has no other tokens
+abbrev pub OneReading : Type 0
+OneReading = (text : List ℕ) (ts us : List Token) → AreTokens text ts → AreTokens text us → ts ≡ us
+
+-- a text has no other fault
+abbrev pub OneFault : Type 0
+OneFault = (text : List ℕ) (place other : ℕ) → IsLexFault text place → IsLexFault text other → place ≡ other

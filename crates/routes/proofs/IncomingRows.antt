@@ -1,0 +1,164 @@
+-- The rows of arcs by the node that they lead to, filled arc by arc.
+use Rattle.std.proofs.Common.{◌≡◌, ℕ, suc, zero, ◌+◌, ◌<◌, ◌≤◌, inl, inr, List, [], ◌∷◌, ◌++◌, length, get_or, set, map, Vec, Global, refl, sym, ap, subst, ◌∙◌, arith, length-set}
+use Rattle.std.specs.List.{All}
+use Rattle.std.proofs.lemmas.Bool.{cases_eq}
+use Rattle.std.proofs.lemmas.List.{get_or-set_same, get_or-set_other, get_or-map, map-set}
+use Rattle.std.proofs.lemmas.List.Elements.{All-head, All-tail}
+use Rattle.mn_base.specs.Among.{Among}
+use Rattle.mn_base.proofs.Members.{Among-append, Among-append-left, Among-last}
+use Rattle.routes.specs.declared.graph.Arc.{Arc}
+use Rattle.routes.specs.Digraph.{Digraph, IsArcAmong}
+use Rattle.routes.specs.Walk.{no_arc, arc_at}
+use Rattle.routes.specs.Search.{IsInto, IsIncoming}
+
+-- the row has exactly the first n arcs into u
+pub record IsIntoBefore (arcs : List Arc) (n u : ℕ) (row : List ℕ) : Type 0 where
+  pub all : (e : ℕ) → e < n → (arc_at arcs e).to ≡ u → Among e row
+  pub below : (e : ℕ) → Among e row → e < n
+  pub to : (e : ℕ) → Among e row → (arc_at arcs e).to ≡ u
+
+-- each row has the first n arcs into its node
+pub record HasFirst (g : Digraph) (n : ℕ) (rows : List (List ℕ)) : Type 0 where
+  pub len : length rows ≡ g.nodes
+  pub rows_are : (u : ℕ) → u < g.nodes → IsIntoBefore g.arcs n u (get_or rows u [])
+
+-- the lists of a list of vectors
+abbrev pub lists_of : List (Vec ℕ Global) → List (List ℕ)
+lists_of rows = map (λ (row : Vec ℕ Global). row.items) rows
+
+empty_at : (rows : List (Vec ℕ Global)) → All (λ (row : Vec ℕ Global). row.items ≡ []) rows → (u : ℕ) → get_or (lists_of rows) u [] ≡ []
+empty_at [] all u = refl
+empty_at (r ∷ rs) all zero = All-head (λ (row : Vec ℕ Global). row.items ≡ []) r rs all
+empty_at (r ∷ rs) all (suc u) = empty_at rs (All-tail (λ (row : Vec ℕ Global). row.items ≡ []) r rs all) u
+
+length-lists_of : (rows : List (Vec ℕ Global)) → length (lists_of rows) ≡ length rows
+length-lists_of [] = refl
+length-lists_of (r ∷ rs) = ap suc (length-lists_of rs)
+
+pub none_yet : (g : Digraph) (rows : List (Vec ℕ Global)) → length rows ≡ g.nodes → All (λ (row : Vec ℕ Global). row.items ≡ []) rows
+    → HasFirst g 0 (lists_of rows)
+none_yet g rows len all =
+    record {
+      len = length-lists_of rows ∙ len;
+      rows_are = λ u low.
+          subst
+          (λ (row : List ℕ). IsIntoBefore g.arcs 0 u row)
+          (sym (empty_at rows all u))
+          (record { all = λ e below to. absurd (omega arith); below = λ e there. absurd there; to = λ e there. absurd there });
+    }
+
+-- the arc n goes to the end of its row
+pub one_more : (g : Digraph) (n : ℕ) (rows rows' : List (List ℕ)) → HasFirst g n rows → (arc_at g.arcs n).to < g.nodes
+    → rows' ≡ set rows (arc_at g.arcs n).to (get_or rows (arc_at g.arcs n).to [] ++ n ∷ [])
+    → HasFirst g (n + 1) rows'
+one_more g n rows rows' on low is =
+    record {
+      len = ap length is ∙ length-set rows t (old ++ n ∷ []) ∙ on.len;
+      rows_are = λ u place.
+          subst
+          (λ (rs : List (List ℕ)). IsIntoBefore g.arcs (n + 1) u (get_or rs u []))
+          (sym is)
+          (elim (cases_eq u t) [
+            | inl here ↦
+                subst
+                (λ (v : ℕ). IsIntoBefore g.arcs (n + 1) v (get_or (set rows t (old ++ n ∷ [])) v []))
+                (sym here)
+                (subst
+                (λ (row : List ℕ). IsIntoBefore g.arcs (n + 1) t row)
+                (sym (get_or-set_same rows t (old ++ n ∷ []) [] in_rows))
+                longer)
+            | inr away ↦
+                subst
+                (λ (row : List ℕ). IsIntoBefore g.arcs (n + 1) u row)
+                (sym (get_or-set_other rows t u (old ++ n ∷ []) [] away))
+                (same u away (on.rows_are u place))
+          ]);
+    }
+  where
+    t : ℕ
+    t = (arc_at g.arcs n).to
+
+    old : List ℕ
+    old = get_or rows (arc_at g.arcs n).to []
+
+    in_rows : (arc_at g.arcs n).to < length rows
+    in_rows = let len = on.len in omega arith
+
+    longer : IsIntoBefore g.arcs (n + 1) t (old ++ n ∷ [])
+    longer =
+        let was = on.rows_are t low in
+        record {
+          all = λ e below to.
+              elim (cases_eq e n) [
+                | inl new ↦ subst (λ k. Among k (old ++ n ∷ [])) (sym new) (Among-last n old)
+                | inr before ↦ Among-append-left e old (n ∷ []) (was.all e (omega arith) to)
+              ];
+          below = λ e there.
+              elim (Among-append e old (n ∷ []) there) [
+                | inl front ↦ (let below = was.below e front in omega arith)
+                | inr back ↦ elim back [ inl here ↦ omega arith | inr never ↦ absurd never ]
+              ];
+          to = λ e there.
+              elim (Among-append e old (n ∷ []) there) [
+                | inl front ↦ was.to e front
+                | inr back ↦ elim back [ inl here ↦ subst (λ k. (arc_at g.arcs k).to ≡ t) here refl | inr never ↦ absurd never ]
+              ];
+        }
+
+    same : (u : ℕ) → (u ≡ t → ⊥) → IsIntoBefore g.arcs n u (get_or rows u []) → IsIntoBefore g.arcs (n + 1) u (get_or rows u [])
+    same u away was =
+        record {
+          all = λ e below to.
+              elim (cases_eq e n) [
+                | inl new ↦ absurd (away (sym to ∙ ap (λ k. (arc_at g.arcs k).to) new))
+                | inr before ↦ was.all e (omega arith) to
+              ];
+          below = λ e there. (let below = was.below e there in omega arith);
+          to = was.to;
+        }
+
+pub all_rows : (g : Digraph) (n : ℕ) (rows : List (List ℕ)) → HasFirst g n rows → n ≡ length g.arcs → IsIncoming g rows
+all_rows g n rows on done =
+    record {
+      len = on.len;
+      rows_are = λ u low.
+          let row = on.rows_are u low in
+          record {
+            all = λ e below to. row.all e (omega arith) to;
+            below = λ e there. (let below = row.below e there in omega arith);
+            to = row.to;
+          };
+    }
+
+-- the same in the code's lists
+pub pushed : (g : Digraph) (n : ℕ) (rows : List (Vec ℕ Global)) (arcs : List Arc) (row row' : Vec ℕ Global)
+    → arcs ≡ g.arcs → All (IsArcAmong g.nodes) g.arcs → HasFirst g n (lists_of rows) → n < length arcs
+    → row ≡ get_or rows (arc_at arcs n).to row → row'.items ≡ row.items ++ n ∷ []
+    → HasFirst g (n + 1) (lists_of (set rows (arc_at arcs n).to row'))
+pushed g n rows arcs row row' are limits on below read is =
+    subst
+    (λ (as' : List Arc). HasFirst g (n + 1) (lists_of (set rows (arc_at as' n).to row')))
+    (sym are)
+    (one_more
+    g
+    n
+    (lists_of rows)
+    (lists_of (set rows (arc_at g.arcs n).to row'))
+    on
+    low
+    (map-set (λ (r : Vec ℕ Global). r.items) rows (arc_at g.arcs n).to row'
+    ∙ ap (λ (ns : List ℕ). set (lists_of rows) (arc_at g.arcs n).to ns) (is ∙ ap (λ (ns : List ℕ). ns ++ n ∷ []) (sym had))))
+  where
+    low : (arc_at g.arcs n).to < g.nodes
+    low = (limits n no_arc (let same = ap length are in omega arith)).to
+
+    in_rows : (arc_at g.arcs n).to < length rows
+    in_rows = let len = on.len in let same = length-lists_of rows in let place = low in omega arith
+
+    read_there : row ≡ get_or rows (arc_at g.arcs n).to row
+    read_there = subst (λ (as' : List Arc). row ≡ get_or rows (arc_at as' n).to row) are read
+
+    had : get_or (lists_of rows) (arc_at g.arcs n).to [] ≡ row.items
+    had =
+        get_or-map (λ (r : Vec ℕ Global). r.items) rows (arc_at g.arcs n).to row [] in_rows
+        ∙ ap (λ (r : Vec ℕ Global). r.items) (sym read_there)

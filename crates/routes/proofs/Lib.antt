@@ -1,0 +1,10 @@
+pub mod Entries
+pub mod IncomingRows
+pub mod NoNodeTwice
+pub mod OneLeastWalk
+pub mod QueueSteps
+pub mod Relaxing
+pub mod SearchSteps
+pub mod Searching
+pub mod Table
+pub mod Way

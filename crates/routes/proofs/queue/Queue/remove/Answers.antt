@@ -1,0 +1,11 @@
+use Rattle.std.proofs.Common.{ℕ, List, subst, sym, ◌↔◌, ◌≢◌}
+use Rattle.mn_base.specs.Among.{Among}
+use Rattle.routes.proofs.Entries.{among_removed}
+use Rattle.routes.proofs.queue.Queue.remove.Goals as goal
+
+pub returns : goal.returns
+returns c =
+    subst
+    (λ (old : List (ℕ × ℕ × ℕ)). (k : ℕ × ℕ × ℕ) → Among k c.remove.new.self.keys ↔ (Among k old × (k ≢ c.args.entry)))
+    c.self.view_is
+    (among_removed c.self.inside.entries.keys c.remove.new.self.keys c.args.entry c.remove.ensures.updates.0)
