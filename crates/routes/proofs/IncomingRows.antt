@@ -1,5 +1,5 @@
 -- The rows of arcs by the node that they lead to, filled arc by arc.
-use Rattle.std.proofs.Common.{◌≡◌, ℕ, suc, zero, ◌+◌, ◌<◌, ◌≤◌, inl, inr, List, [], ◌∷◌, ◌++◌, length, get_or, set, map, Vec, Global, refl, sym, ap, subst, ◌∙◌, arith, length-set}
+use Rattle.std.proofs.Common.{◌≡◌, ℕ, suc, zero, ◌+◌, ◌<◌, inl, inr, List, [], ◌∷◌, ◌++◌, length, get_or, set, map, Vec, Global, refl, sym, ap, subst, ◌∙◌, arith, length-set}
 use Rattle.std.specs.List.{All}
 use Rattle.std.proofs.lemmas.Bool.{cases_eq}
 use Rattle.std.proofs.lemmas.List.{get_or-set_same, get_or-set_other, get_or-map, map-set}
@@ -9,7 +9,7 @@ use Rattle.mn_base.proofs.Members.{Among-append, Among-append-left, Among-last}
 use Rattle.routes.specs.declared.graph.Arc.{Arc}
 use Rattle.routes.specs.Digraph.{Digraph, IsArcAmong}
 use Rattle.routes.specs.Walk.{no_arc, arc_at}
-use Rattle.routes.specs.Search.{IsInto, IsIncoming}
+use Rattle.routes.specs.Search.{IsIncoming}
 
 -- the row has exactly the first n arcs into u
 pub record IsIntoBefore (arcs : List Arc) (n u : ℕ) (row : List ℕ) : Type 0 where

@@ -1,5 +1,5 @@
 -- Two least walks between the same nodes are one: of two keys each of which is at most the other, the lists are equal.
-use Rattle.std.proofs.Common.{◌≡◌, ℕ, ◌<◌, ◌⊎◌, inl, inr, List, [], ◌∷◌, length, refl, sym, ap, subst, ◌∙◌, arith}
+use Rattle.std.proofs.Common.{◌≡◌, ℕ, inl, inr, List, [], ◌∷◌, refl, arith}
 use Rattle.routes.specs.declared.graph.Arc.{Arc}
 use Rattle.routes.specs.LeastWalk.{IsNoLater, IsNoGreater, IsLeastWalk}
 

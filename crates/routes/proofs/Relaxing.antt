@@ -1,12 +1,12 @@
 -- One arc of the row that is looked at: what the code needs of it, and what its offer leaves.
-use Rattle.std.proofs.Common.{◌≡◌, ℕ, suc, ◌+◌, ◌*◌, ◌^◌, ◌<◌, ◌≤◌, Bool, List, [], ◌∷◌, length, get_or, drop, Option, inl, refl, sym, ap, subst, ◌∙◌, arith, add-one}
+use Rattle.std.proofs.Common.{◌≡◌, ℕ, ◌+◌, ◌^◌, ◌<◌, ◌≤◌, Bool, List, ◌∷◌, length, get_or, drop, Option, inl, refl, sym, ap, subst, ◌∙◌, arith, add-one}
 use Rattle.std.proofs.Math.Seq.{drop-cons}
 use Rattle.std.proofs.lemmas.List.{get_or_default}
 use Rattle.routes.specs.declared.graph.Arc.{Arc}
 use Rattle.routes.specs.declared.label.Label.{Label}
 use Rattle.routes.specs.Digraph.{Digraph, IsArcAmong}
 use Rattle.routes.specs.Walk.{no_arc, arc_at}
-use Rattle.routes.specs.Table.{label_of, offer_of}
+use Rattle.routes.specs.Table.{label_of}
 use Rattle.routes.specs.Search.{settled_of, settled_count, IsQueue, IsPending, IsSearching, Offers}
 use Rattle.routes.proofs.Searching.{offered_step}
 use Rattle.std.proofs.lemmas.List.Sums.{count_by-le-length}

@@ -1,14 +1,13 @@
 -- The steps of a search, over plain functions from nodes to labels.
-use Rattle.std.proofs.Common.{◌≡◌, ◌≢◌, ℕ, suc, zero, ◌+◌, ◌*◌, ◌<◌, ◌≤◌, ◌⊎◌, inl, inr, Bool, true, false, List, [], ◌∷◌, length, Option, Some, None, refl, sym, ap, subst, ◌∙◌, arith}
-use Rattle.std.proofs.lemmas.Bool.{cases_eq, cases_lt, cases_Bool, true≢false}
+use Rattle.std.proofs.Common.{◌≡◌, ◌≢◌, ℕ, ◌+◌, ◌*◌, ◌≤◌, inl, inr, Bool, true, false, List, [], ◌∷◌, Option, Some, None, refl, sym, subst, ◌∙◌, arith}
+use Rattle.std.proofs.lemmas.Bool.{cases_eq, cases_lt, true≢false}
 use Rattle.std.proofs.lemmas.Option.{none-some}
-use Rattle.mn_base.specs.Among.{Among}
 use Rattle.routes.specs.declared.graph.Arc.{Arc}
 use Rattle.routes.specs.declared.label.Label.{Label}
 use Rattle.routes.specs.Digraph.{Digraph, IsWithinLimits}
 use Rattle.routes.specs.Walk.{no_arc, arc_at}
-use Rattle.routes.specs.Table.{home, offer_of, IsNoFarther, IsNoWorse, IsLedBy, HasNoWorse, IsTable}
-use Rattle.routes.specs.Search.{HasLabel, IsLedBySettled, IsPending, IsInto, IsSearch}
+use Rattle.routes.specs.Table.{home, offer_of, IsNoFarther, IsNoWorse, HasNoWorse, IsTable}
+use Rattle.routes.specs.Search.{IsLedBySettled, IsInto, IsSearch}
 
 -- ---- the order of labels
 pub no_farther_trans : (a b c : Label) → IsNoFarther a b → IsNoFarther b c → IsNoFarther a c

@@ -1,7 +1,6 @@
 -- The steps of a search on its lists: reads, writes, and how many nodes are settled.
-use Rattle.std.proofs.Common.{◌≡◌, ◌≢◌, ◌↔◌, ℕ, zero, suc, ◌+◌, ◌-◌, ◌*◌, ◌<◌, ◌≤◌, ◌⊎◌, inl, inr, Bool, true, false, cond, List, [], ◌∷◌, length, get_or, set, replicate, Option, Some, None, Result, Ok, Err, OnOk, refl, sym, ap, subst, ◌∙◌, arith, length-set}
-use Rattle.std.specs.List.{count_by}
-use Rattle.std.proofs.lemmas.Bool.{cases_eq, cases_lt, true≢false}
+use Rattle.std.proofs.Common.{◌≡◌, ◌≢◌, ◌↔◌, ℕ, zero, suc, ◌+◌, ◌-◌, ◌<◌, ◌⊎◌, inl, inr, Bool, true, false, cond, List, [], ◌∷◌, length, get_or, set, replicate, Option, Some, None, Result, Ok, Err, OnOk, refl, sym, ap, subst, ◌∙◌, arith, length-set}
+use Rattle.std.proofs.lemmas.Bool.{cases_lt}
 use Rattle.std.proofs.lemmas.List.{get_or-set_same, get_or-set_other, get_or-replicate, get_or_default, get_or_past, length-replicate}
 use Rattle.std.proofs.lemmas.List.Sums.{sum_by-set, count_by-le-length}
 use Rattle.mn_base.specs.Among.{Among}
@@ -9,11 +8,11 @@ use Rattle.routes.specs.declared.label.Label.{Label}
 use Rattle.routes.specs.Digraph.{Digraph, IsWithinLimits}
 use Rattle.routes.specs.Queue.{IsUpTo}
 use Rattle.routes.specs.Walk.{arc_at}
-use Rattle.routes.specs.Table.{label_of, home, offer_of, IsNoFarther, IsNoWorse, HasNoWorse, IsTable, IsRoutes}
+use Rattle.routes.specs.Table.{label_of, home, offer_of, IsRoutes}
 use Rattle.routes.specs.Search.{settled_of, settled_count, entry_of, IsQueue, IsInto, IsSearch, IsSearching, IsAtRest, IsIncoming, Settles, Offers}
 use Rattle.routes.proofs.SearchSteps.{IsPut, begun, kept, kept_settled, bettered, settled_next, finished, one_label}
-use Rattle.routes.proofs.QueueSteps.{queue_begun, queue_settled, queue_moved, no_entry, one_entry}
-use Rattle.routes.proofs.Way.{label_read, has_place}
+use Rattle.routes.proofs.QueueSteps.{queue_begun, queue_moved, no_entry, one_entry}
+use Rattle.routes.proofs.Way.{has_place}
 
 -- ---- writes
 pub put_label : (labels : List (Option Label)) (v : ℕ) (c : Label) → v < length labels

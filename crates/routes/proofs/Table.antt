@@ -1,12 +1,12 @@
 -- The walks that a table stands for are least: they are walks of the labels' keys, and no walk has a lesser key.
-use Rattle.std.proofs.Common.{◌≡◌, ◌≢◌, ℕ, suc, zero, ◌+◌, ◌<◌, ◌≤◌, ◌⊎◌, inl, inr, List, [], ◌∷◌, length, Option, Some, None, refl, sym, ap, subst, ◌∙◌, arith}
+use Rattle.std.proofs.Common.{◌≡◌, ℕ, suc, zero, ◌<◌, ◌≤◌, ◌⊎◌, inl, inr, List, [], ◌∷◌, length, Option, Some, None, refl, sym, ap, subst, ◌∙◌, arith}
 use Rattle.std.proofs.lemmas.Bool.{cases_eq}
 use Rattle.std.proofs.lemmas.Option.{none-some}
 use Rattle.routes.specs.declared.graph.Arc.{Arc}
 use Rattle.routes.specs.declared.label.Label.{Label}
 use Rattle.routes.specs.Walk.{arc_at, IsWalk, weight_of}
 use Rattle.routes.specs.LeastWalk.{IsNoLater, IsNoGreater, IsLeastWalk}
-use Rattle.routes.specs.Table.{home, offer_of, IsNoWorse, IsLedBy, HasNoWorse, IsTable}
+use Rattle.routes.specs.Table.{home, IsTable}
 
 -- the first arc of a label
 abbrev pub next_of : Option Label → ℕ

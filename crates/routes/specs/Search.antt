@@ -1,6 +1,6 @@
 -- A search on its way. Nodes are settled from the goal on, nearest first; a node that isn't settled has the best label that
 -- the arcs into settled nodes offer it.
-use Rattle.std.specs.Prelude.{◌≡◌, ◌≢◌, ℕ, ◌+◌, ◌*◌, ◌<◌, ◌≤◌, ◌⊎◌, Bool, true, false, List, [], length, Option, Some, None, slice_index_or, slice_set, count_by}
+use Rattle.std.specs.Prelude.{◌≡◌, ◌≢◌, ℕ, ◌*◌, ◌<◌, ◌≤◌, ◌⊎◌, Bool, true, false, List, [], length, Option, Some, slice_index_or, slice_set, count_by}
 use Rattle.mn_base.specs.Among.{Among}
 use Rattle.routes.specs.declared.graph.Arc.{Arc}
 use Rattle.routes.specs.declared.label.Label.{Label}

@@ -1,4 +1,4 @@
-use Rattle.std.proofs.Common.{◌≡◌, ◌+◌, ℕ, length, set, subst, sym, ◌∙◌, ap, arith}
+use Rattle.std.proofs.Common.{◌≡◌, ◌+◌, length, set, subst, sym, ◌∙◌, ap, arith}
 use Rattle.routes.specs.Digraph.{Digraph}
 use Rattle.routes.specs.Walk.{arc_at}
 use Rattle.routes.specs.Search.{IsIncoming}

@@ -1,4 +1,4 @@
-use Rattle.std.proofs.Common.{ℕ, List, subst, sym, ◌↔◌, ◌≢◌}
+use Rattle.std.proofs.Common.{ℕ, List, subst, ◌↔◌, ◌≢◌}
 use Rattle.mn_base.specs.Among.{Among}
 use Rattle.routes.proofs.Entries.{among_removed}
 use Rattle.routes.proofs.queue.Queue.remove.Goals as goal

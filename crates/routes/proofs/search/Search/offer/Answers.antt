@@ -1,7 +1,7 @@
-use Rattle.std.proofs.Common.{◌≡◌, ◌≢◌, ◌⊎◌, ◌↔◌, ◌<◌, ℕ, Bool, false, Some, None, Vec, Global, length, subst, sym, ◌∙◌, arith}
+use Rattle.std.proofs.Common.{◌≡◌, ◌≢◌, ◌↔◌, ◌<◌, ℕ, Bool, false, Some, None, Vec, Global, length, subst, sym, ◌∙◌, arith}
 use Rattle.mn_base.specs.Among.{Among}
 use Rattle.routes.specs.Table.{label_of}
-use Rattle.routes.specs.Search.{settled_of, entry_of, IsQueue}
+use Rattle.routes.specs.Search.{settled_of, IsQueue}
 use Rattle.routes.proofs.Way.{label_read}
 use Rattle.routes.proofs.Searching.{settled_read, on_ok_both, queue_first, queue_again}
 use Rattle.routes.proofs.search.Search.offer.Goals as goal

@@ -1,4 +1,4 @@
-use Rattle.std.proofs.Common.{◌≡◌, ◌+◌, ◌^◌, ◌<◌, Bool, Vec, Global, ap, ◌∙◌, arith}
+use Rattle.std.proofs.Common.{Bool, Vec, Global, ap, ◌∙◌, arith}
 use Rattle.routes.specs.Digraph.{Digraph}
 use Rattle.routes.proofs.Relaxing.{arc_place, weight_fits, hops_fit, start_place, one_less}
 use Rattle.routes.proofs.search.Search.relax.Goals as goal

@@ -1,4 +1,4 @@
-use Rattle.std.proofs.Common.{List, Option, Vec, Global, ap, ◌∙◌}
+use Rattle.std.proofs.Common.{Option, Vec, Global, ap, ◌∙◌}
 use Rattle.routes.specs.declared.label.Label.{Label}
 use Rattle.routes.proofs.Searching.{row_next}
 use Rattle.routes.proofs.search.Search.run.Goals as goal

@@ -1,6 +1,6 @@
-use Rattle.std.proofs.Common.{◌≡◌, ◌<◌, Some, None, length, subst, sym, ◌∙◌, arith}
+use Rattle.std.proofs.Common.{◌<◌, length, sym, ◌∙◌, arith}
 use Rattle.std.proofs.lemmas.Option.{none-some}
-use Rattle.routes.specs.Search.{settled_of, IsQueue}
+use Rattle.routes.specs.Search.{settled_of}
 use Rattle.routes.specs.Table.{label_of}
 use Rattle.routes.proofs.Way.{label_read}
 use Rattle.routes.proofs.QueueSteps.{queue_settled}

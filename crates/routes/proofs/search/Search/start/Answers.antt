@@ -1,9 +1,9 @@
-use Rattle.std.proofs.Common.{◌≡◌, ◌⊎◌, ◌↔◌, ◌<◌, ℕ, List, Option, Some, None, inl, inr, [], set, replicate, false, subst, sym, ap, rules}
+use Rattle.std.proofs.Common.{◌<◌, List, Option, Some, inl, inr, [], set, subst, sym, ap, rules}
 use Rattle.mn_base.specs.Among.{Among}
 use Rattle.routes.specs.declared.label.Label.{Label}
 use Rattle.routes.specs.Digraph.{Digraph}
 use Rattle.routes.specs.Table.{home}
-use Rattle.routes.specs.Search.{entry_of, IsSearching}
+use Rattle.routes.specs.Search.{IsSearching}
 use Rattle.routes.proofs.Searching.{started}
 use Rattle.routes.proofs.search.Search.start.Goals as goal
 
