@@ -1,7 +1,7 @@
 #!/usr/bin/env python3
 """Times `Routes::toward` on its largest graph beside NetworkX, which finds the same weights.
 
-usage: bench/routes.py      needs `rt`, and NetworkX for the second part
+usage: bench/routes.py      needs `rt`, and NetworkX (Debian's python3-networkx) for the second part
 """
 import shutil
 import subprocess
@@ -15,28 +15,69 @@ NODES, ARCS = 4096, 262_144
 PROGRAM = r"""// Times the routes to node 0 of a graph of 4,096 nodes and 262,144 arcs, and prints what the walks weigh together.
 #![tactic(auto)]
 
+ghost use Rattle.std.specs.Prelude.{◌≡◌, ◌≤◌, length, IfOk};
+
+use mn_base::NoMemory;
 use routes::{Arc, Graph, Routes};
+use std::alloc::{AllocError, Global};
 use std::time::Instant;
+
+fn next(state: u64) -> u64 {
+    state
+        .wrapping_mul(6_364_136_223_846_793_005)
+        .wrapping_add(1_442_695_040_888_963_407)
+}
+
+fn ends(alloc: Global) -> Result<Vec<(u32, u32, u64)>, AllocError> {
+    let mut state = 1u64;
+    let mut ends = Vec::new(alloc);
+    for _ in 0..262_144u32 {
+        let from = next(state);
+        let to = next(from);
+        state = next(to);
+        let weight = (state >> 33) % 10_000_001;
+        ends.push((((from >> 33) % 4_096) as u32, ((to >> 33) % 4_096) as u32, weight))?;
+    }
+    Ok(ends)
+}
+
+fn graph_of(alloc: Global, nodes: u32, ends: &[(u32, u32, u64)]) -> Result<Graph, NoMemory>
+    requires nodes { nodes ≤ 4096 }
+    requires count { length ends.now ≤ 262144 }
+    ensures { IfOk result (λ g. g.nodes ≡ nodes) }
+{
+    let mut arcs = Vec::new(alloc);
+    for (from, to, weight) in ends {
+        if *from < nodes && *to < nodes && *weight <= 40_950_000_000 {
+            arcs.push(Arc {
+                from: *from,
+                to: *to,
+                weight: *weight,
+            })?;
+        }
+    }
+    Ok(Graph::new(nodes, arcs))
+}
+
+fn weight_of(walk: &[u32], ends: &[(u32, u32, u64)]) -> u64 {
+    let mut total = 0u64;
+    for arc in walk {
+        if let Some((_, _, weight)) = ends.get(*arc as usize) {
+            total = total.saturating_add(*weight);
+        }
+    }
+    total
+}
 
 fn main(rt: HostRuntime) -> anyhow::Result<()> {
     let alloc = rt.alloc();
-    let nodes = 4096;
-    let mut state = 1u64;
-    let mut arcs = Vec::new(alloc);
-    for _ in 0..262_144 {
-        let mut parts = [0u64; 3];
-        for part in parts.iter_mut() {
-            state = state.wrapping_mul(6_364_136_223_846_793_005).wrapping_add(1_442_695_040_888_963_407);
-            *part = state >> 33;
-        }
-        arcs.push(Arc {
-            from: (parts[0] % 4096) as u32,
-            to: (parts[1] % 4096) as u32,
-            weight: parts[2] % 10_000_001,
-        })?;
+    let ends = ends(alloc)?;
+    if ends.len() > 262_144 {
+        return Ok(());
     }
-    let weights = arcs.iter().map(|arc| arc.weight).collect::<Vec<u64>>(alloc)?;
-    let graph = Graph::new(nodes, arcs);
+    let Ok(graph) = graph_of(alloc, 4_096, &ends) else {
+        anyhow::bail!("no memory");
+    };
     let begin = Instant::now(&rt)?;
     let Ok(routes) = Routes::toward(alloc, &graph, 0) else {
         anyhow::bail!("no memory");
@@ -45,15 +86,10 @@ fn main(rt: HostRuntime) -> anyhow::Result<()> {
     let begin = Instant::now(&rt)?;
     let mut total = 0u64;
     let mut hops = 0u64;
-    for source in 0..nodes {
-        let Ok(found) = routes.walk(alloc, source) else {
-            anyhow::bail!("no memory");
-        };
-        if let Some(walk) = found {
-            hops += walk.len() as u64;
-            for arc in &walk {
-                total += weights[*arc as usize];
-            }
+    for source in 0..4_096u32 {
+        if let Ok(Some(walk)) = routes.walk(alloc, source) {
+            hops = hops.saturating_add(walk.len() as u64);
+            total = total.saturating_add(weight_of(&walk, &ends));
         }
     }
     let walks = begin.elapsed(&rt)?;
@@ -61,6 +97,16 @@ fn main(rt: HostRuntime) -> anyhow::Result<()> {
     println!(rt; "weight {total}, arcs {hops}")?;
     Ok(())
 }
+"""
+
+# What the program's loop over the ends keeps.
+INVARIANT = """use Rattle.std.proofs.Common.{◌≤◌, length}
+use Rattle.std.specs.List.{All}
+use Rattle.routes.specs.Digraph.{IsArcAmong}
+use Rattle.time_routes.proofs.graph_of.Given as goal
+
+abbrev pub invariant-loop-from : goal.invariant-loop-from
+invariant-loop-from l = (length l.arcs.items ≤ l.from-index) × All (IsArcAmong l.nodes) l.arcs.items
 """
 
 
@@ -79,11 +125,14 @@ def ours() -> None:
         top = Path(folder)
         for name in ("mn_base", "routes"):
             shutil.copytree(ROOT / "crates" / name, top / "crates" / name, ignore=shutil.ignore_patterns("out"))
-        source = top / "crates" / "time_routes" / "src"
-        source.mkdir(parents=True)
-        (source / "main.rt").write_text(PROGRAM)
+        crate = top / "crates" / "time_routes"
+        for path, text in (("src/main.rt", PROGRAM), ("proofs/graph_of/Invariants.antt", INVARIANT)):
+            (crate / path).parent.mkdir(parents=True)
+            (crate / path).write_text(text)
         (top / "crates.txt").write_text("mn_base:\nroutes: mn_base\ntime_routes: routes mn_base anyhow\n")
-        subprocess.run(["rt", "try"], cwd=top / "crates" / "time_routes", check=True)
+        subprocess.run(["git", "init", "-q"], cwd=top, check=True)
+        done = subprocess.run(["rt", "run"], cwd=crate, capture_output=True, text=True)
+        print(done.stdout, end="")
 
 
 def networkx() -> None:
