@@ -1,5 +1,5 @@
 -- Pieces and tokens so far, with one piece more.
-use Rattle.std.proofs.Common.{◌≡◌, ◌<◌, ◌≤◌, ◌+◌, ◌-◌, ℕ, List, [], ◌∷◌, ◌++◌, length, drop, refl, sym, ◌∙◌, ap, subst, arith, Option, Some, None, append_assoc, append-nil, length-drop}
+use Rattle.std.proofs.Common.{◌≡◌, ◌<◌, ◌≤◌, ◌+◌, ◌-◌, ℕ, List, [], ◌∷◌, ◌++◌, length, drop, refl, sym, ◌∙◌, ap, subst, arith, Option, Some, None, append_assoc, append-nil, length-drop, length-append}
 use Rattle.std.proofs.lemmas.List.Elements.{All-nil, All-cons, All-append}
 use Rattle.std.specs.List.{All}
 use Rattle.std.specs.Option.{option_map_or}
@@ -33,9 +33,10 @@ pub record Lexed (text rest : List ℕ) (tokens : List Token) : Type 0 where
   pub tokens_are : tokens ≡ tokens_of 0 pieces
   pub behind : place_behind 0 pieces + length rest ≡ length text
   pub spans : All (IsSpan (length text)) tokens
+  pub few : length tokens + length rest ≤ length text
 
 pub Lexed-start : (text : List ℕ) → Lexed text text []
-Lexed-start text = record { pieces = []; front = refl; tokens_are = refl; behind = omega arith; spans = All-nil (IsSpan (length text)) }
+Lexed-start text = record { pieces = []; front = refl; tokens_are = refl; behind = omega arith; spans = All-nil (IsSpan (length text)); few = omega arith }
 
 spans_of : (len start : ℕ) (p : Piece) → 1 ≤ p.len → start + p.len ≤ len → All (IsSpan len) (token_of start p)
 spans_of len start p least most = by_kind p.kind
@@ -43,6 +44,10 @@ spans_of len start p least most = by_kind p.kind
     by_kind : (o : Option TokenKind) → All (IsSpan len) (option_map_or (λ k. token start (start + p.len) k ∷ []) o [])
     by_kind None = All-nil (IsSpan len)
     by_kind (Some k) = All-cons (IsSpan len) _ [] (omega arith, most) (All-nil (IsSpan len))
+
+one_token : (start end : ℕ) (o : Option TokenKind) → length (option_map_or (λ k. token start end k ∷ []) o []) ≤ 1
+one_token start end None = omega arith
+one_token start end (Some k) = omega arith
 
 pub Lexed-push : (text rest : List ℕ) (tokens more : List Token) (p : Piece) (start : ℕ) → Lexed text rest tokens → Some p ≡ piece_at rest → start ≡ length text - length rest → more ≡ tokens ++ token_of start p → Lexed text (drop p.len rest) more
 Lexed-push text rest tokens more p start l here at_is pushed =
@@ -55,6 +60,7 @@ Lexed-push text rest tokens more p start l here at_is pushed =
       tokens_are = pushed ∙ ap (λ ts. ts ++ token_of start p) l.tokens_are ∙ ap (λ n. tokens_of 0 l.pieces ++ token_of n p) place_is ∙ sym (tokens_of-push 0 l.pieces p);
       behind = omega (arith, place_behind-push 0 l.pieces p, length-drop p.len rest, fits.most, l.behind);
       spans = subst (All (IsSpan (length text))) (sym pushed) (All-append (IsSpan (length text)) tokens (token_of start p) l.spans (spans_of (length text) start p fits.least within));
+      few = omega (arith, ap length pushed, length-append tokens (token_of start p), one_token start (start + p.len) p.kind, length-drop p.len rest, fits.least, fits.most, l.few);
     }
 
 pub Lexed-end : (text rest : List ℕ) (tokens : List Token) → Lexed text rest tokens → rest ≡ [] → AreTokens text tokens

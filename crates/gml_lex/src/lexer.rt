@@ -1,4 +1,4 @@
-ghost use Rattle.std.specs.Prelude.{◌≡◌, ◌<◌, ◌≤◌, ◌+◌, ◌^◌, ◌++◌, length, All, IfOk, IfErr, OnOk};
+ghost use Rattle.std.specs.Prelude.{◌≡◌, ◌<◌, ◌≤◌, ◌+◌, ◌^◌, ◌++◌, length, vec_len, All, IfOk, IfErr, OnOk};
 ghost use Rattle.mn_base.specs.Refused.{IfFault};
 ghost use Rattle.gml_lex.specs.Tokens.{AreTokens, IsLexFault, token_of};
 
@@ -16,6 +16,7 @@ pub fn tokens(alloc: Global, text: &[u8]) -> Result<Vec<Token>, Refusal<LexFault
     ensures found { IfOk result (λ v. AreTokens text.now v.items) }
     ensures spans { IfOk result
         (λ v. All (λ t. (t.start < t.end) × (t.end ≤ length text.now)) v.items) }
+    ensures few { IfOk result (λ v. vec_len v ≤ length text.now) }
     ensures fault { IfErr result (λ e. IfFault e (λ f. IsLexFault text.now f.place)) }
 {
     let mut tokens = Vec::new(alloc);

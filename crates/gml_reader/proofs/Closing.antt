@@ -1,0 +1,69 @@
+-- Where a list is closed, and the first pair of one.
+use Rattle.std.proofs.Common.{◌≡◌, ◌<◌, ◌+◌, ℕ, suc, List, ◌∷◌, ◌++◌, length, drop, get_or, refl, sym, ap, arith, Option, Some, None, append_assoc, length-append}
+use Rattle.std.proofs.lemmas.List.{drop_more, drop_all}
+use Rattle.gml_lex.specs.declared.kinds.TokenKind.{TokenKind}
+use Rattle.gml_lex.specs.declared.kinds.TokenKind.TheVariants as kind
+use Rattle.gml_lex.specs.declared.kinds.Token.{Token}
+use Rattle.gml_reader.specs.Grammar.{Pairs, done, plain, nested, spelled, IsPlain}
+use Rattle.gml_reader.specs.Walk.{IsListIn, depth_behind, closing_at, closing}
+
+-- a token that neither opens nor closes a list
+plain_step : (k : TokenKind) (d : ℕ) → IsPlain k → depth_behind k d ≡ Some d
+plain_step kind.Key d simple = refl
+plain_step kind.Integer d simple = refl
+plain_step kind.Real d simple = refl
+plain_step kind.Text d simple = refl
+plain_step kind.Left d simple = absurd simple
+plain_step kind.Right d simple = absurd simple
+
+depth_of : (k kd : TokenKind) (d : ℕ) → k ≡ kd → depth_behind k d ≡ depth_behind kd d
+depth_of k kd d is = ap (λ x. depth_behind x d) is
+
+one_more : (o : Option ℕ) (e : ℕ) (later : ℕ → ℕ) → o ≡ Some e → closing_at o later ≡ 1 + later e
+one_more o e later is = ap (λ x. closing_at x later) is
+
+-- a list is passed as a whole
+pub closing-spelled : (len : ℕ) (t : Pairs) (d : ℕ) (rest : List Token) → IsListIn len t → closing (spelled t ++ rest) d ≡ length (spelled t) + closing rest d
+closing-spelled len done d rest l = omega arith
+closing-spelled len (plain key value more) d rest l =
+    let later = closing-spelled len more d rest l.4 in
+    let one = one_more _ d (closing (value ∷ (spelled more ++ rest))) (depth_of key.kind kind.Key d l.0) in
+    let two = one_more _ d (closing (spelled more ++ rest)) (plain_step value.kind d l.1) in
+    omega (arith, one, two, later)
+closing-spelled len (nested key left inner right more) d rest l =
+    let close = right ∷ (spelled more ++ rest) in
+    let shape : (spelled inner ++ (right ∷ spelled more)) ++ rest ≡ spelled inner ++ close = append_assoc (spelled inner) (right ∷ spelled more) rest in
+    let one = one_more _ d (closing (left ∷ ((spelled inner ++ (right ∷ spelled more)) ++ rest))) (depth_of key.kind kind.Key d l.0) in
+    let two = one_more _ (suc d) (closing ((spelled inner ++ (right ∷ spelled more)) ++ rest)) (depth_of left.kind kind.Left d l.1) in
+    let three = ap (λ ts. closing ts (suc d)) shape in
+    let four = closing-spelled len inner (suc d) close l.3 in
+    let five = one_more _ d (closing (spelled more ++ rest)) (depth_of right.kind kind.Right (suc d) l.4) in
+    let six = closing-spelled len more d rest l.5 in
+    omega (arith, one, two, three, four, five, six, length-append (spelled inner) (right ∷ spelled more))
+
+-- the Right of a list that begins here
+pub closing-inner : (len : ℕ) (inner : Pairs) (right : Token) (back : List Token) → IsListIn len inner → right.kind ≡ kind.Right → closing (spelled inner ++ (right ∷ back)) 0 ≡ length (spelled inner)
+closing-inner len inner right back l closes =
+    let one = closing-spelled len inner 0 (right ∷ back) l in
+    let two = ap (λ o. closing_at o (closing back)) (depth_of right.kind kind.Right 0 closes) in
+    omega (arith, one, two)
+
+-- one token more
+pub closing-more : (tokens : List Token) (at : ℕ) (none : Token) (d e total : ℕ) → at < length tokens → at + closing (drop at tokens) d ≡ total → Some e ≡ depth_behind (get_or tokens at none).kind d → (at + 1) + closing (drop (at + 1) tokens) e ≡ total
+closing-more tokens at none d e total within so_far here =
+    let step : closing (drop at tokens) d ≡ closing (get_or tokens at none ∷ drop (at + 1) tokens) d = ap (λ ts. closing ts d) (drop_more tokens at none within) in
+    let one = one_more _ e (closing (drop (at + 1) tokens)) (sym here) in
+    omega (arith, so_far, step, one)
+
+-- it closes the list
+pub closing-here : (tokens : List Token) (at : ℕ) (none : Token) (d total : ℕ) → at < length tokens → at + closing (drop at tokens) d ≡ total → None ≡ depth_behind (get_or tokens at none).kind d → at ≡ total
+closing-here tokens at none d total within so_far here =
+    let step : closing (drop at tokens) d ≡ closing (get_or tokens at none ∷ drop (at + 1) tokens) d = ap (λ ts. closing ts d) (drop_more tokens at none within) in
+    let none_left = ap (λ o. closing_at o (closing (drop (at + 1) tokens))) (sym here) in
+    omega (arith, so_far, step, none_left)
+
+-- no token does
+pub closing-end : (tokens : List Token) (at d total : ℕ) → length tokens ≡ at → at + closing (drop at tokens) d ≡ total → at ≡ total
+closing-end tokens at d total end so_far =
+    let empty = ap (λ ts. closing ts d) (drop_all at tokens (omega (arith, end))) in
+    omega (arith, so_far, empty)

@@ -1,0 +1,12 @@
+pub mod Completions
+pub mod Checked
+pub mod Closing
+pub mod FirstPairs
+pub mod Addresses
+pub mod Finding
+pub mod Reached
+pub mod ReadFaults
+pub mod WholeTexts
+pub mod OneTree
+pub mod Misplacements
+pub mod OneAnswer

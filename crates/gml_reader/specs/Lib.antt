@@ -1,0 +1,11 @@
+pub mod Grammar
+pub mod Laws
+pub mod Places
+pub mod ReadGraph
+pub mod ReadItems
+pub mod ReadKeys
+pub mod Reading
+pub mod States
+pub mod Texts
+pub mod Values
+pub mod Walk
