@@ -1,6 +1,8 @@
 -- The real host: what it tells of each role. It tells no bytes.
-use Rattle.std.specs.Prelude.{ℕ, Bool, false, List, Option, None, slice_index_or}
+use Rattle.std.specs.Prelude.{ℕ, Bool, false, List, Option, None, slice_index_or, Result, Ok, Err}
+use Rattle.mn_edge.specs.declared.host.Failed.{Failed}
 use Rattle.mn_edge.specs.declared.role.Role.{Role}
+use Rattle.mn_edge.specs.Memory.{next}
 use Rattle.mn_edge.specs.Part.{Part}
 use Rattle.mn_edge.specs.Role.{place_of}
 
@@ -21,3 +23,8 @@ silent known = record { left = None; written = None; name = known.name; active =
 -- the part of a role, by what is known of each role, in order
 abbrev pub silent_part : List Known → Role → Part
 silent_part host role = silent (slice_index_or host (place_of role) untouched)
+
+-- the count of faults after a call: one more where it failed, up to 2^64 - 1, and as it was where it didn't
+abbrev pub faults_after : {T : Type 0} → ℕ → Result T Failed → ℕ
+faults_after count (Ok _) = count
+faults_after count (Err _) = next count

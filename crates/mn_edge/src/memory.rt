@@ -2,7 +2,6 @@
 ghost use Rattle.std.specs.Prelude.{◌≡◌, ◌≢◌, ◌<◌, ◌≤◌, ◌↔◌, ◌⊎◌, ◌-◌, true, false, if◌then◌else◌, length, min, take, IsErr, IfOk, MatchResult};
 ghost use Rattle.std.specs.Io.KnownBytes.{IsAtEnd};
 ghost use Rattle.mn_edge.specs.declared.role.Role.{Role};
-ghost use Rattle.mn_edge.specs.declared.stream.TheConstants.{NAME_MAX};
 ghost use Rattle.mn_edge.specs.Part.{Part, Fails, Begins, Takes, Adds, Finishes};
 ghost use Rattle.mn_edge.specs.Role.{is_input};
 ghost use Rattle.mn_edge.specs.Memory.{Memory, held_of, part_of, fresh, given, NamesNext, IsFull, read_size, write_size, after_begin, after_read, after_write, after_finish, Touches};
@@ -90,7 +89,7 @@ impl Host for MemoryHost {
             (λ _. Begins name.now (part_of (held_of self.old role)) (part_of (held_of self.new role)))
             (λ _. Fails (part_of (held_of self.old role)) (part_of (held_of self.new role))) }
         ensures others { (other : Role) → other ≢ role → part_of (held_of self.new other) ≡ part_of (held_of self.old other) }
-        ensures exact { IsErr result ↔ (NamesNext self.old role Op.Begin ⊎ NAME_MAX < length name.now) }
+        ensures exact { IsErr result ↔ (NamesNext self.old role Op.Begin ⊎ 4096 < length name.now) }
         ensures after { held_of self.new role ≡ after_begin name.now (held_of self.old role) result }
         ensures touched { Touches role self.old self.new }
     {

@@ -1,7 +1,9 @@
 // The real host. It is trusted to do what it says of files and standard output, since no contract can.
-ghost use Rattle.std.specs.Prelude.{◌≡◌, ◌≤◌, false, length, IfOk};
+ghost use Rattle.std.specs.Prelude.{◌≡◌, ◌≢◌, ◌<◌, ◌≤◌, true, false, length, take, IfOk, MatchResult};
+ghost use Rattle.std.specs.Io.KnownBytes.{IsAtEnd};
 ghost use Rattle.mn_edge.specs.declared.role.Role.{Role};
-ghost use Rattle.mn_edge.specs.Real.{untouched, silent, silent_part};
+ghost use Rattle.mn_edge.specs.Part.{Fails, Begins, Takes, Adds, Finishes};
+ghost use Rattle.mn_edge.specs.Real.{untouched, silent, silent_part, faults_after};
 
 use crate::host::{Failed, Host};
 use crate::role::Role;
@@ -94,7 +96,14 @@ impl<R: Files<File = File> + Print + AllocGlobal + Drop> Host for RealHost<R> {
 
     ghost part = { silent_part };
 
-    fn begin(&mut self, role: Role, name: &str) -> Result<(), Failed> {
+    fn begin(&mut self, role: Role, name: &str) -> Result<(), Failed>
+        requires { (silent_part self.old role).active ≡ false }
+        ensures own { MatchResult result
+            (λ _. Begins name.now (silent_part self.old role) (silent_part self.new role))
+            (λ _. Fails (silent_part self.old role) (silent_part self.new role)) }
+        ensures others { (other : Role) → other ≢ role → silent_part self.new other ≡ silent_part self.old other }
+        ensures counted { (silent_part self.new role).faults ≡ faults_after (silent_part self.old role).faults result }
+    {
         let place = role.place();
         let slot = &mut self.slots[place];
         let Ok(opened) = open(&self.rt, role, name) else {
@@ -106,7 +115,17 @@ impl<R: Files<File = File> + Print + AllocGlobal + Drop> Host for RealHost<R> {
         Ok(())
     }
 
-    fn read(&mut self, role: Role, buffer: &mut [u8]) -> Result<usize, Failed> {
+    fn read(&mut self, role: Role, buffer: &mut [u8]) -> Result<usize, Failed>
+        requires active { (silent_part self.old role).active ≡ true }
+        requires room { 0 < length buffer.old }
+        ensures within { IfOk result (λ n. n ≤ length buffer.new) }
+        ensures own { MatchResult result
+            (λ n. Takes (take n buffer.new) (silent_part self.old role) (silent_part self.new role))
+            (λ _. Fails (silent_part self.old role) (silent_part self.new role)) }
+        ensures end { IfOk result (λ n. n ≡ 0 → IsAtEnd (silent_part self.new role).left) }
+        ensures others { (other : Role) → other ≢ role → silent_part self.new other ≡ silent_part self.old other }
+        ensures counted { (silent_part self.new role).faults ≡ faults_after (silent_part self.old role).faults result }
+    {
         let place = role.place();
         let Ok(count) = read_from(&mut self.opened[place], buffer) else {
             let slot = &mut self.slots[place];
@@ -116,7 +135,16 @@ impl<R: Files<File = File> + Print + AllocGlobal + Drop> Host for RealHost<R> {
         Ok(count)
     }
 
-    fn write(&mut self, role: Role, piece: &[u8]) -> Result<usize, Failed> {
+    fn write(&mut self, role: Role, piece: &[u8]) -> Result<usize, Failed>
+        requires active { (silent_part self.old role).active ≡ true }
+        requires some { 0 < length piece.now }
+        ensures within { IfOk result (λ n. (1 ≤ n) × (n ≤ length piece.now)) }
+        ensures own { MatchResult result
+            (λ n. Adds (take n piece.now) (silent_part self.old role) (silent_part self.new role))
+            (λ _. Fails (silent_part self.old role) (silent_part self.new role)) }
+        ensures others { (other : Role) → other ≢ role → silent_part self.new other ≡ silent_part self.old other }
+        ensures counted { (silent_part self.new role).faults ≡ faults_after (silent_part self.old role).faults result }
+    {
         let place = role.place();
         let Ok(count) = write_to(&self.rt, &mut self.opened[place], piece) else {
             let slot = &mut self.slots[place];
@@ -126,7 +154,14 @@ impl<R: Files<File = File> + Print + AllocGlobal + Drop> Host for RealHost<R> {
         Ok(count)
     }
 
-    fn finish(&mut self, role: Role) -> Result<(), Failed> {
+    fn finish(&mut self, role: Role) -> Result<(), Failed>
+        requires { (silent_part self.old role).active ≡ true }
+        ensures own { MatchResult result
+            (λ _. Finishes (silent_part self.old role) (silent_part self.new role))
+            (λ _. Fails (silent_part self.old role) (silent_part self.new role)) }
+        ensures others { (other : Role) → other ≢ role → silent_part self.new other ≡ silent_part self.old other }
+        ensures counted { (silent_part self.new role).faults ≡ faults_after (silent_part self.old role).faults result }
+    {
         let place = role.place();
         self.opened[place] = Opened::Nothing;
         let slot = &mut self.slots[place];

@@ -1,7 +1,8 @@
 // One role of the real host: what it can tell.
 ghost use Rattle.std.specs.Prelude.{◌≡◌, None, false, MatchResult};
 ghost use Rattle.mn_edge.specs.Part.{Fails, Begins, Finishes};
-ghost use Rattle.mn_edge.specs.Real.{untouched, silent};
+ghost use Rattle.mn_edge.specs.Memory.{next};
+ghost use Rattle.mn_edge.specs.Real.{untouched, silent, faults_after};
 
 use crate::host::Failed;
 use std::alloc::Global;
@@ -40,13 +41,15 @@ impl Slot {
     }
 
     pub fn fault(&mut self)
-        ensures counted { Fails (silent self.old) (silent self.new) }
+        ensures own { Fails (silent self.old) (silent self.new) }
+        ensures counted { self.new.faults ≡ next self.old.faults }
     {
         self.faults = self.faults.saturating_add(1);
     }
 
     pub fn begin(&mut self, alloc: Global, name: &str) -> Result<(), Failed>
         ensures own { MatchResult result (λ _. Begins name.now (silent self.old) (silent self.new)) (λ _. Fails (silent self.old) (silent self.new)) }
+        ensures counted { self.new.faults ≡ faults_after self.old.faults result }
     {
         let Ok(kept) = String::from_str(alloc, name) else {
             self.faults = self.faults.saturating_add(1);
@@ -59,6 +62,7 @@ impl Slot {
 
     pub fn finish(&mut self)
         ensures own { Finishes (silent self.old) (silent self.new) }
+        ensures counted { self.new.faults ≡ self.old.faults }
     {
         self.active = false;
     }

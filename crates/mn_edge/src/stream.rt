@@ -99,7 +99,7 @@ impl Stream {
     }
 
     pub fn begin(&mut self, named: bool, name: &str) -> Result<(), Failed>
-        ensures exact { IsErr result ↔ (IsTrue named ⊎ NAME_MAX < length name.now) }
+        ensures exact { IsErr result ↔ (IsTrue named ⊎ 4096 < length name.now) }
         ensures after { self.new ≡ after_begin name.now self.old result }
         ensures later { self.old.faults ≤ self.new.faults }
     {

@@ -1,47 +1,25 @@
 -- Texts that are written to one role, one after the other.
-use Rattle.std.proofs.Common.{◌≡◌, ◌≢◌, ℕ, ◌+◌, ◌<◌, true, List, ◌∷◌, ◌++◌, length, take, drop, get_or, Result, Ok, Err, sym, ap, subst, ◌∙◌, append_assoc, arith}
+use Rattle.std.proofs.Common.{◌≡◌, ◌≢◌, ℕ, ◌+◌, ◌<◌, true, List, ◌∷◌, ◌++◌, length, take, drop, get_or, Result, Err, sym, ap, subst, ◌∙◌}
 use Rattle.std.specs.List.{flat_map}
 use Rattle.std.proofs.lemmas.List.{take-append-drop, drop_more}
 use Rattle.std.proofs.lemmas.List.Concat.{flat_map-append, flat_map-cons}
 use Rattle.mn_edge.specs.declared.host.WriteFault.{WriteFault}
 use Rattle.mn_edge.specs.declared.role.Role.{Role}
 use Rattle.mn_edge.specs.Part.{Part, Adds}
-use Rattle.mn_edge.specs.Whole.{AddsFront, AddsWhole}
-use Rattle.mn_edge.proofs.Parts.{Adds-append}
+use Rattle.mn_edge.specs.Whole.{AddsWhole}
+use Rattle.mn_edge.proofs.Parts.{AddsFront-append, AddsWhole-then}
 
--- a text, and then a front of another
-AddsFront-then : (p q r : Part) (first second : List ℕ) → Adds first p q → AddsFront second q r → AddsFront (first ++ second) p r
-AddsFront-then p q r first second added part = record {
-  front = first ++ part.front;
-  rest = part.rest;
-  split = ap (λ (bytes : List ℕ). first ++ bytes) part.split ∙ sym (append_assoc first part.front part.rest);
-  added = Adds-append p q r first part.front added part.added;
-}
-
--- a front of a text is one of a longer text
-AddsFront-longer : (p q : Part) (first second : List ℕ) → AddsFront first p q → AddsFront (first ++ second) p q
-AddsFront-longer p q first second part = record {
-  front = part.front;
-  rest = part.rest ++ second;
-  split = ap (λ (bytes : List ℕ). bytes ++ second) part.split ∙ append_assoc part.front part.rest second;
-  added = part.added;
-}
-
-AddsWhole-append : (p q r : Part) (first second : List ℕ) (result : Result (Unit {0}) WriteFault) → Adds first p q → AddsWhole second q r result → AddsWhole (first ++ second) p r result
-AddsWhole-append p q r first second (Ok done) added whole = Adds-append p q r first second added whole
-AddsWhole-append p q r first second (Err fault) added whole = (AddsFront-then p q r first second added whole.0, omega (arith, added.later, whole.1))
-
--- a text, and then what a whole write of another answers
-pub AddsWhole-then : (p q r : Part) (text first second : List ℕ) (result : Result (Unit {0}) WriteFault) → text ≡ first ++ second
+-- a text of two parts: the first was written, and then what a whole write of the second answers
+pub AddsWhole-parts : (p q r : Part) (text first second : List ℕ) (result : Result (Unit {0}) WriteFault) → text ≡ first ++ second
     → Adds first p q → AddsWhole second q r result → AddsWhole text p r result
-AddsWhole-then p q r text first second result text_is added whole =
-    subst (λ (bytes : List ℕ). AddsWhole bytes p r result) (sym text_is) (AddsWhole-append p q r first second result added whole)
+AddsWhole-parts p q r text first second result text_is added whole =
+    subst (λ (bytes : List ℕ). AddsWhole bytes p r result) (sym text_is) (AddsWhole-then p q r first second result added whole)
 
 -- a text, and then a write that stopped within the next of the list
 pub AddsWhole-stopped : (p q r : Part) (text first second third : List ℕ) (fault other : WriteFault) → text ≡ first ++ (second ++ third)
     → Adds first p q → AddsWhole second q r (Err fault) → AddsWhole text p r (Err other)
 AddsWhole-stopped p q r text first second third fault other text_is added whole =
-    AddsWhole-then p q r text first (second ++ third) (Err other) text_is added (AddsFront-longer q r second third whole.0, whole.1)
+    AddsWhole-parts p q r text first (second ++ third) (Err other) text_is added (AddsFront-append q r second third whole.0, whole.1)
 
 -- one more text of a list
 pub flat_map-at : {X : Type 0} (f : X → List ℕ) (xs : List X) (i : ℕ) (x : X) → i < length xs → x ≡ get_or xs i x
