@@ -9,6 +9,33 @@ use journal::{Fate, PacketPlan, Setup, Visit};
 use mn_base::{Bytes, NoMemory};
 use std::alloc::{AllocError, Global};
 
+/// The outcome of a setup, by the list of all visits, the fates of the packets and their bytes. The packets that left are
+/// put in the order of (tick, packet).
+pub fn gather(
+    alloc: Global,
+    setup: &Setup,
+    visits: &[Visit],
+    fates: &[Fate],
+    bytes: Vec<Bytes>,
+) -> Result<Outcome, NoMemory>
+    requires fates { fates.now ≡ map (fate_in visits.now) setup.now.packets }
+    requires bytes { length bytes.items ≡ length setup.now.packets }
+    ensures outcome { IfOk result (IsOutcome setup.now visits.now bytes.items) }
+    ensures cores { IfOk result (λ o. o.cores ≡ []) }
+{
+    let parts = setup.parts();
+    let mut leaving = all_leaving(alloc, &parts.packets, fates, bytes)?;
+    leaving.sort_by_key(|left| (left.tick, left.packet))?;
+    let dropped = all_dropped(alloc, &parts.packets, fates)?;
+    let pipe_counts = count_visits(alloc, parts.pipes.len() as u32, visits)?;
+    Ok(Outcome {
+        leaving,
+        dropped,
+        pipe_counts,
+        cores: Vec::new(alloc),
+    })
+}
+
 fn leaving(packet: u32, fate: Fate, bytes: Bytes) -> Option<Leaving>
     ensures { result ≡ leaving_of packet bytes fate }
 {
@@ -64,31 +91,4 @@ fn all_dropped(
         .zip(fates)
         .filter_map(|(packet, fate)| dropped(packet.number, *fate))
         .collect(alloc)
-}
-
-/// The outcome of a setup, by the list of all visits, the fates of the packets and their bytes. The packets that left are
-/// put in the order of (tick, packet).
-pub fn gather(
-    alloc: Global,
-    setup: &Setup,
-    visits: &[Visit],
-    fates: &[Fate],
-    bytes: Vec<Bytes>,
-) -> Result<Outcome, NoMemory>
-    requires fates { fates.now ≡ map (fate_in visits.now) setup.now.packets }
-    requires bytes { length bytes.items ≡ length setup.now.packets }
-    ensures outcome { IfOk result (IsOutcome setup.now visits.now bytes.items) }
-    ensures cores { IfOk result (λ o. o.cores ≡ []) }
-{
-    let parts = setup.parts();
-    let mut leaving = all_leaving(alloc, &parts.packets, fates, bytes)?;
-    leaving.sort_by_key(|left| (left.tick, left.packet))?;
-    let dropped = all_dropped(alloc, &parts.packets, fates)?;
-    let pipe_counts = count_visits(alloc, parts.pipes.len() as u32, visits)?;
-    Ok(Outcome {
-        leaving,
-        dropped,
-        pipe_counts,
-        cores: Vec::new(alloc),
-    })
 }
