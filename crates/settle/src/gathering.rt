@@ -1,7 +1,7 @@
 ghost use Rattle.std.specs.Prelude.{◌≡◌, ◌<◌, [], length, map, filter_map, IfOk};
 ghost use Rattle.std.specs.List.{zip};
 ghost use Rattle.journal.specs.Fates.{fate_in};
-ghost use Rattle.settle.specs.IsOutcome.{leaving_of, drop_line, IsOutcome};
+ghost use Rattle.settle.specs.IsOutcome.{leaving_of, drop_of, IsOutcome};
 
 use crate::counting::count_visits;
 use crate::outcome::{DropLine, Leaving, Outcome};
@@ -50,7 +50,7 @@ fn leaving(packet: u32, fate: Fate, bytes: Bytes) -> Option<Leaving>
 }
 
 fn dropped(packet: u32, fate: Fate) -> Option<DropLine>
-    ensures { result ≡ drop_line packet fate }
+    ensures { result ≡ drop_of packet fate }
 {
     match fate {
         Fate::Left { .. } => None,
@@ -84,7 +84,7 @@ fn all_dropped(
     packets: &[PacketPlan],
     fates: &[Fate],
 ) -> Result<Vec<DropLine>, AllocError>
-    ensures { IfOk result (λ v. v.items ≡ filter_map (λ p. drop_line p.0.number p.1) (zip packets.now fates.now)) }
+    ensures { IfOk result (λ v. v.items ≡ filter_map (λ p. drop_of p.0.number p.1) (zip packets.now fates.now)) }
 {
     packets
         .iter()
