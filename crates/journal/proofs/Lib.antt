@@ -15,4 +15,5 @@ pub mod Queues
 pub mod Standings
 pub mod Stays
 pub mod Times
+pub mod UsualDelays
 pub mod Waits

@@ -1,19 +1,18 @@
 -- Every time of a journal fits, and so does every time at which a packet leaves.
-use Rattle.std.proofs.Common.{◌≡◌, ◌⊎◌, inl, inr, ℕ, ◌+◌, ◌-◌, ◌*◌, ◌^◌, ◌<◌, ◌≤◌, List, [], ◌∷◌, length, drop, slice_index_or, refl, sym, ap, ◌∙◌, subst, arith}
+use Rattle.std.proofs.Common.{◌≡◌, ℕ, ◌+◌, ◌-◌, ◌*◌, ◌^◌, ◌<◌, ◌≤◌, List, [], ◌∷◌, length, drop, slice_index_or, refl, sym, ap, ◌∙◌, subst, arith}
 use Rattle.mn_base.specs.Among.{Among}
 use Rattle.mn_base.specs.Times.{output_time}
 use Rattle.pipe.specs.declared.step.Step.{Step}
 use Rattle.pipe.specs.declared.step.Step.TheVariants.{Lost, Full, Pass}
 use Rattle.journal.specs.declared.setup.PacketPlan.{PacketPlan}
 use Rattle.journal.specs.declared.visit.Visit.{Visit}
-use Rattle.journal.specs.declared.fate.Fate.{Fate}
 use Rattle.journal.specs.declared.fate.Fate.TheVariants.{Left}
 use Rattle.journal.specs.SetupView.{SetupView, route_of}
 use Rattle.journal.specs.IsSetup.{IsSetup, longest_stay, longest_way}
-use Rattle.journal.specs.Dues.{Due, due_of, pipe_of}
+use Rattle.journal.specs.Dues.{due_of, pipe_of}
 use Rattle.journal.specs.Journal.{journal_of}
-use Rattle.journal.specs.Fates.{fate_by, fate_at, fate_of}
-use Rattle.journal.specs.Laws.{EndsWay, TimesFit, OutputsFit}
+use Rattle.journal.specs.Fates.{fate_by}
+use Rattle.journal.specs.Laws.{TimesFit, OutputsFit}
 use Rattle.journal.proofs.Members.{all-among}
 use Rattle.journal.proofs.Growing.{IsGrowing}
 use Rattle.journal.proofs.Meets.{journal-grows}

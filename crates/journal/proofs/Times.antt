@@ -1,5 +1,5 @@
 -- How late a packet can be on its way: no later than it entered, plus the longest that its route may keep it.
-use Rattle.std.proofs.Common.{◌≡◌, ◌⊎◌, inl, inr, ℕ, zero, suc, ◌+◌, ◌-◌, ◌*◌, ◌^◌, ◌<◌, ◌≤◌, List, [], ◌∷◌, ◌++◌, length, drop, sum_by, Option, Some, None, get_or, slice_index_or, filter, refl, sym, ap, ◌∙◌, subst, arith, ◌==◌}
+use Rattle.std.proofs.Common.{◌≡◌, inl, inr, ℕ, zero, suc, ◌+◌, ◌-◌, ◌*◌, ◌^◌, ◌<◌, ◌≤◌, List, [], ◌∷◌, length, drop, Option, Some, None, get_or, slice_index_or, filter, refl, sym, ap, ◌∙◌, subst, arith, ◌==◌}
 use Rattle.std.specs.Option.{option_map_or}
 use Rattle.std.proofs.Math.Nat.{mul-le-mul_right}
 use Rattle.std.proofs.lemmas.List.{drop_more}
@@ -14,12 +14,12 @@ use Rattle.journal.specs.declared.visit.Visit.{Visit}
 use Rattle.journal.specs.SetupView.{SetupView, packet_of, route_of, len_of, params_of}
 use Rattle.journal.specs.IsSetup.{IsSetup, longest_stay, longest_way}
 use Rattle.journal.specs.Dues.{Due, due_of, pipe_of, dues}
-use Rattle.journal.specs.IsJournal.{Rises, arrival, arrivals, is_lost, step_of, visit_of}
+use Rattle.journal.specs.IsJournal.{Rises, arrival, arrivals, is_lost, step_of}
 use Rattle.journal.proofs.Members.{SplitAt, split_at, among-find, among_from-map, among_from-filter, all-among}
 use Rattle.journal.proofs.Order.{before-tick, rises-across}
 use Rattle.journal.proofs.Delays.{Origin, origin, IsNext}
-use Rattle.journal.proofs.Growing.{IsGrowing, one_packet, tick-pos}
-use Rattle.journal.proofs.Packets.{packet-known, packet-route, HasRoute}
+use Rattle.journal.proofs.Growing.{IsGrowing, tick-pos}
+use Rattle.journal.proofs.Packets.{packet-known, packet-route}
 use Rattle.journal.proofs.Stays.{IsUsual, pass-stay}
 
 -- no packet is longer than the limit

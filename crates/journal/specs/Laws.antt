@@ -1,12 +1,14 @@
 -- What holds of each setup.
-use Rattle.std.specs.Prelude.{◌≡◌, ℕ, ◌*◌, ◌^◌, ◌<◌, ◌≤◌, List, [], length, AllPairs, None}
+use Rattle.std.specs.Prelude.{◌≡◌, ℕ, ◌*◌, ◌^◌, ◌<◌, ◌≤◌, List, [], length, All, AllPairs, None}
 use Rattle.mn_base.specs.Among.{Among}
+use Rattle.mn_base.specs.Units.{latency_in_ticks}
 use Rattle.mn_base.specs.Times.{output_time}
 use Rattle.pipe.specs.declared.step.Step.TheVariants.{Pass}
 use Rattle.journal.specs.declared.setup.PacketPlan.{PacketPlan}
 use Rattle.journal.specs.declared.visit.Visit.{Visit}
 use Rattle.journal.specs.declared.fate.Fate.TheVariants.{Left}
 use Rattle.journal.specs.SetupView.{SetupView, route_of}
+use Rattle.journal.specs.IsSetup.{longest_way}
 use Rattle.journal.specs.Dues.{Before, due_of, next_hop}
 use Rattle.journal.specs.IsJournal.{IsJournal}
 use Rattle.journal.specs.Journal.{hop_count, journal_of}
@@ -64,3 +66,12 @@ abbrev pub OutputsFit : SetupView → Type 0
 OutputsFit S =
     (p : PacketPlan) (tick : ℕ) → Among p S.packets → fate_of S p ≡ Left tick
     → output_time S.base_ns S.tick_ns tick < 2 ^ 32 * 10 ^ 9
+
+-- pipes whose latency in ticks is that of their microseconds never keep a packet longer than a setup allows, on any route of at
+-- most 255 of them
+abbrev pub UsualDelaysFit : Type 0
+UsualDelaysFit =
+    (S : SetupView) (route : List ℕ) → 1000 ≤ S.tick_ns → S.tick_ns ≤ 10000000
+    → All (λ p. p.latency_ticks ≡ latency_in_ticks p.latency_us S.tick_ns) S.pipes
+    → length route ≤ 255
+    → longest_way S route < 550000000000000000

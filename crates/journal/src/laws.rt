@@ -2,7 +2,7 @@
 
 ghost use Rattle.journal.specs.IsJournal.{IsJournal};
 ghost use Rattle.journal.specs.Journal.{journal_of};
-ghost use Rattle.journal.specs.Laws.{HasOneJournal, VisitsRise, HopsDiffer, HopsAreLater, WaysEnd, FatesHold, VisitsAreFew, TimesFit, OutputsFit};
+ghost use Rattle.journal.specs.Laws.{HasOneJournal, VisitsRise, HopsDiffer, HopsAreLater, WaysEnd, FatesHold, VisitsAreFew, TimesFit, OutputsFit, UsualDelaysFit};
 
 use crate::Setup;
 
@@ -75,3 +75,9 @@ pub fn outputs_fit(setup: &Setup)
 {
     let _parts = setup.parts();
 }
+
+/// Pipes whose latency in ticks is that of their microseconds meet the condition of a setup on delays, on each route of at most
+/// 255 of them.
+pub fn usual_delays_fit()
+    ensures { UsualDelaysFit }
+{}

@@ -47,7 +47,7 @@ impl Words {
         ensures word { result ≡ loss_word self.old pipe packet }
         ensures same { self.new ≡ self.old }
     {
-        // A stream keeps the place where the one before stood, so the place is set after it.
+        // Stream and place stand where the word before left them, so both are set.
         self.generator.set_stream(u64::from(pipe));
         self.generator.set_word_pos(u128::from(packet));
         self.generator.next_word()

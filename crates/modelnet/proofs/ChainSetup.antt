@@ -1,25 +1,22 @@
 -- The setup of a chain keeps the conditions of a setup.
-use Rattle.std.proofs.Common.{◌≡◌, ◌≢◌, ◌≤◌, ◌<◌, ◌^◌, ◌+◌, ◌-◌, ◌*◌, ◌/◌, ℕ, zero, suc, List, [], ◌∷◌, length, get_or, map, min, max, All, AllPairs, replicate, refl, sym, ◌∙◌, ap, subst, inl, inr, arith, zero-add, lit≤, lit<, sum_by}
-use Rattle.std.specs.Prelude.{unwrap_or, slice_get}
-use Rattle.std.specs.Int.{div_ceil}
+use Rattle.std.proofs.Common.{◌≡◌, ◌≢◌, ◌≤◌, ◌<◌, ◌^◌, ◌+◌, ◌-◌, ◌*◌, ℕ, zero, suc, List, [], ◌∷◌, length, get_or, map, min, All, AllPairs, sym, ◌∙◌, ap, subst, arith, zero-add, lit≤, lit<}
 use Rattle.std.specs.List.{fold, AllZip, enumerate_from, range_with_len}
-use Rattle.std.proofs.Math.Nat.{div-mul-le_self, mul-le-mul, mul-le-mul_left, mul-le-mul_right}
-use Rattle.std.proofs.lemmas.Bool.{cases_lt}
-use Rattle.std.proofs.lemmas.Grind.{div_ceil_times}
+use Rattle.std.proofs.Math.Nat.{div-mul-le_self}
 use Rattle.std.proofs.lemmas.List.{get_or-map, get_or-replicate, length-map, length-replicate}
+use Rattle.std.proofs.lemmas.List.Elements.{All-cons}
 use Rattle.std.proofs.lemmas.List.FromFn.{length-enumerate_from, get_or-enumerate_from, length-range_with_len, get_or-range_with_len}
-use Rattle.std.proofs.lemmas.List.Sums.{sum_by-le}
 use Rattle.std.proofs.lemmas.Slice.Zip.{AllZip-long}
 use Rattle.mn_base.specs.declared.params.PipeParams.{PipeParams}
-use Rattle.mn_base.specs.Units.{transmission, latency_in_ticks}
-use Rattle.mn_base.specs.Times.{base_of, entry_tick_of}
+use Rattle.mn_base.specs.Units.{latency_in_ticks}
+use Rattle.mn_base.specs.Times.{base_of}
 use Rattle.pcap_io.specs.declared.packet.Packet.{Packet}
 use Rattle.pcap_io.specs.Capture.{Capture, IsTrace, IsRecordTime}
 use Rattle.journal.specs.declared.setup.PacketPlan.{PacketPlan}
-use Rattle.journal.specs.SetupView.{SetupView, no_params, params_of}
-use Rattle.journal.specs.IsSetup.{IsSetup, longest_stay, longest_way}
+use Rattle.journal.specs.SetupView.{SetupView}
+use Rattle.journal.specs.IsSetup.{IsSetup, longest_way}
+use Rattle.journal.proofs.UsualDelays.{usual_delays_fit}
 use Rattle.modelnet.specs.declared.order.PipeSpec.{PipeSpec}
-use Rattle.modelnet.specs.Order.{ChainView, IsPipeSpec, IsOrder}
+use Rattle.modelnet.specs.Order.{ChainView, IsOrder}
 use Rattle.modelnet.specs.Chain.{IsPipeOf, IsChainSetup, plan_of, plans_of, trace_base}
 
 pub All-one : {X : Type 0} (P : X → Type 0) (x : X) → P x → All P (x ∷ [])
@@ -65,44 +62,16 @@ plans_rise base tick_ns packets i j d before within =
     let inside : j < length packets = rw (length-plans base tick_ns packets) at within in
     rw (plan-at base tick_ns packets i d (omega arith), plan-at base tick_ns packets j d inside) before
 
--- how long a pipe may keep a packet
+-- latencies in ticks are those of the microseconds
 
-abbrev pub stay : ℕ → PipeParams → ℕ
-stay tick_ns params = (params.latency_ticks + 2) * tick_ns + params.queue * transmission params.bps 262144
-
-pub max-times : (a b t : ℕ) → max a b * t ≤ a * t + b * t
-max-times a b t = let sum : max a b ≤ a + b = omega arith in omega (arith, mul-le-mul_right t sum)
-
-pub transmission-most : (bps : ℕ) → 1000 ≤ bps → transmission bps 262144 ≤ 2097152000000
-transmission-most bps least =
-    let rounded = (div_ceil_times (262144 * 8000000000) bps (omega arith)).1 in
-    let whole = mul-le-mul_left 2097152000000 least in
-    elim (cases_lt 2097152000000 (transmission bps 262144)) [
-      | inl more ↦ let beyond : 2097152000001 ≤ transmission bps 262144 = omega arith in
-          absurd (omega (arith, rounded, whole, mul-le-mul_right bps beyond))
-      | inr within ↦ within
-    ]
-
-pub latency-most : (us tick_ns : ℕ) → us ≤ 10000000 → 1000 ≤ tick_ns → tick_ns ≤ 10000000 → latency_in_ticks us tick_ns * tick_ns ≤ 10020000000
-latency-most us tick_ns few least most =
-    let rounded = (div_ceil_times (us * 1000) tick_ns (omega arith)).1 in
-    omega (arith, max-times 1 (div_ceil (us * 1000) tick_ns) tick_ns, rounded)
-
-pub stay-most : (tick_ns : ℕ) (pipe : PipeSpec) (params : PipeParams) → 1000 ≤ tick_ns → tick_ns ≤ 10000000 → IsPipeOf tick_ns pipe params → IsPipeSpec pipe → stay tick_ns params ≤ 3000000000000000
-stay-most tick_ns pipe params least most same within =
-    let latency : params.latency_ticks * tick_ns ≤ 10020000000 = rw same.latency_ticks (latency-most pipe.latency_us tick_ns within.latency least most) in
-    let queue : params.queue * transmission params.bps 262144 ≤ 1000 * 2097152000000 =
-    mul-le-mul params.places.1 (transmission-most params.bps params.bandwidth.0) in
-    omega (arith, latency, queue)
-
--- also where there is no such pipe
-pub stays-most : (tick_ns : ℕ) (pipes : List PipeSpec) (params : List PipeParams) → 1000 ≤ tick_ns → tick_ns ≤ 10000000 → AllZip (IsPipeOf tick_ns) pipes params → All IsPipeSpec pipes → (k : ℕ) → stay tick_ns (unwrap_or (slice_get params k) no_params) ≤ 3000000000000000
-stays-most tick_ns [] [] least most same within k = omega arith
-stays-most tick_ns [] (p ∷ params) least most same within k = absurd same
-stays-most tick_ns (pipe ∷ pipes) [] least most same within k = absurd same
-stays-most tick_ns (pipe ∷ pipes) (p ∷ params) least most same within zero = stay-most tick_ns pipe p least most same.0 (within zero pipe (omega arith))
-stays-most tick_ns (pipe ∷ pipes) (p ∷ params) least most same within (suc k) =
-    stays-most tick_ns pipes params least most same.1 (λ i d below. within (suc i) d (omega arith)) k
+pub usual_latencies : (tick_ns : ℕ) (pipes : List PipeSpec) (params : List PipeParams) → AllZip (IsPipeOf tick_ns) pipes params → All (λ p. p.latency_ticks ≡ latency_in_ticks p.latency_us tick_ns) params
+usual_latencies tick_ns [] [] same = λ k d within. absurd (omega arith)
+usual_latencies tick_ns [] (p ∷ params) same = absurd same
+usual_latencies tick_ns (pipe ∷ pipes) [] same = absurd same
+usual_latencies tick_ns (pipe ∷ pipes) (p ∷ params) same =
+    All-cons (λ q. q.latency_ticks ≡ latency_in_ticks q.latency_us tick_ns) p params
+    (same.0.latency_ticks ∙ ap (λ us. latency_in_ticks us tick_ns) (sym same.0.latency_us))
+    (usual_latencies tick_ns pipes params same.1)
 
 -- the conditions, one by one
 
@@ -147,10 +116,8 @@ is_setup order trace S o t times c = record {
         subst (λ time. trace_base trace ≤ time) (get_or-map (λ p. p.time_ns) trace.packets k no_packet 0 within)
         (base_is_least (map (λ p. p.time_ns) trace.packets) k 0 (rw (length-map trace.packets (λ p. p.time_ns)) within))
 
-    way : longest_way S (range_with_len 0 (length order.pipes)) < 550000000000000000
+    way : longest_way S the_route < 550000000000000000
     way =
-        let each : All (λ pipe. longest_stay S pipe ≤ 3000000000000000) (range_with_len 0 (length order.pipes)) =
-        λ k d within. rw c.tick_ns (stays-most order.tick_ns order.pipes S.pipes o.tick_least o.tick_most c.pipes o.pipes (get_or (range_with_len 0 (length order.pipes)) k d)) in
-        let sum = sum_by-le (longest_stay S) 3000000000000000 (range_with_len 0 (length order.pipes)) each in
-        let count : length (range_with_len 0 (length order.pipes)) ≤ 16 = rw (length-range_with_len 0 (length order.pipes)) o.pipes_most in
-        omega (arith, sum, mul-le-mul_right 3000000000000000 count)
+        usual_delays_fit S the_route (rw c.tick_ns o.tick_least) (rw c.tick_ns o.tick_most)
+        (rw c.tick_ns (usual_latencies order.tick_ns order.pipes S.pipes c.pipes))
+        (rw (length-range_with_len 0 (length order.pipes)) (omega (arith, o.pipes_most)))

@@ -8,6 +8,35 @@ use parcel::PipeCounts;
 use settle::{DropLine, Outcome};
 use std::alloc::Global;
 
+/// The report of a run, as ASCII lines that each end with a line feed:
+///
+/// ```text
+/// modelnet report 1
+/// packets N bound B unbound U left L dropped D
+/// pipe Q passed A lost X full F
+/// drop P pipe Q tick T cause C
+/// unbound P cause C
+/// ```
+///
+/// N counts all packets of the trace. There is one `pipe` line for each pipe with at least one visit, one `drop` line for
+/// each dropped packet and one `unbound` line for each packet that was bound to no route, each in the order of its list:
+/// `pipe_counts` by pipe, `dropped` and `unbounds` by packet.
+pub fn print_report(
+    alloc: Global,
+    outcome: &Outcome,
+    unbounds: &[(u32, Unbound)],
+) -> Result<Bytes, NoMemory>
+    ensures text { IfOk result (λ text. text ≡ report_text outcome.now unbounds.now) }
+{
+    let mut text = String::new(alloc);
+    write_head(&mut text)?;
+    write_packets(&mut text, &outcome.leaving, &outcome.dropped, unbounds)?;
+    write_pipes(&mut text, &outcome.pipe_counts)?;
+    write_drops(&mut text, &outcome.dropped)?;
+    write_unbounds(&mut text, unbounds)?;
+    Ok(Bytes::from_vec(text.into_bytes()))
+}
+
 /// Whether the pipe had a visit.
 fn is_visited(counts: &PipeCounts) -> bool
     ensures { result ≡ has_visit counts.now }
@@ -42,33 +71,4 @@ fn write_unbounds(text: &mut String, unbounds: &[(u32, Unbound)]) -> Result<(), 
         write_unbound(text, *packet, *unbound)?;
     }
     Ok(())
-}
-
-/// The report of a run, as ASCII lines that each end with a line feed:
-///
-/// ```text
-/// modelnet report 1
-/// packets N bound B unbound U left L dropped D
-/// pipe Q passed A lost X full F
-/// drop P pipe Q tick T cause C
-/// unbound P cause C
-/// ```
-///
-/// N counts all packets of the trace. There is one `pipe` line for each pipe with at least one visit, one `drop` line for
-/// each dropped packet and one `unbound` line for each packet that was bound to no route, each in the order of its list:
-/// `pipe_counts` by pipe, `dropped` and `unbounds` by packet.
-pub fn print_report(
-    alloc: Global,
-    outcome: &Outcome,
-    unbounds: &[(u32, Unbound)],
-) -> Result<Bytes, NoMemory>
-    ensures text { IfOk result (λ text. text ≡ report_text outcome.now unbounds.now) }
-{
-    let mut text = String::new(alloc);
-    write_head(&mut text)?;
-    write_packets(&mut text, &outcome.leaving, &outcome.dropped, unbounds)?;
-    write_pipes(&mut text, &outcome.pipe_counts)?;
-    write_drops(&mut text, &outcome.dropped)?;
-    write_unbounds(&mut text, unbounds)?;
-    Ok(Bytes::from_vec(text.into_bytes()))
 }

@@ -9,13 +9,6 @@ use pcap_io::{Packet, Trace};
 use settle::Leaving;
 use std::alloc::Global;
 
-/// The original length of a packet of the setup, in bytes.
-fn original_len(setup: &Setup, number: u32) -> u32
-    ensures { result ≡ len_of setup.now number }
-{
-    setup.find(number).map_or(0, |packet| packet.len)
-}
-
 /// The trace of the packets that left, in the given order: each with its captured bytes and its original length, at the
 /// time of its tick in ns. A packet that leaves at tick x has the time `base_ns + x * tick_ns`.
 pub fn out_trace(alloc: Global, setup: &Setup, leaving: Vec<Leaving>) -> Result<Trace, NoMemory>
@@ -36,4 +29,11 @@ pub fn out_trace(alloc: Global, setup: &Setup, leaving: Vec<Leaving>) -> Result<
         })?;
     }
     Ok(Trace::new(parts.link_type, packets))
+}
+
+/// The original length of a packet of the setup, in bytes.
+fn original_len(setup: &Setup, number: u32) -> u32
+    ensures { result ≡ len_of setup.now number }
+{
+    setup.find(number).map_or(0, |packet| packet.len)
 }

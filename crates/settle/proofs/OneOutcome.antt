@@ -1,8 +1,9 @@
 -- There is one outcome: two lists with the same members, both in order, are one.
-use Rattle.std.proofs.Common.{◌≡◌, ℕ, zero, suc, ◌<◌, List, [], ◌∷◌, length, get_or, AllPairs, Contains, refl, sym, ap, ◌∙◌, subst, inl, inr, arith, ⊎_elim}
+use Rattle.std.proofs.Common.{◌≡◌, suc, ◌<◌, List, [], ◌∷◌, length, AllPairs, Contains, refl, sym, ap, ◌∙◌, subst, inl, inr, arith, ⊎_elim}
 use Rattle.std.specs.List.Sorted.{IsPermutation}
 use Rattle.std.proofs.lemmas.List.Sorted.{IsPermutation-sym, IsPermutation-trans, Contains-permutation}
 use Rattle.mn_base.specs.Among.{Among}
+use Rattle.journal.proofs.Members.{among-place}
 use Rattle.settle.specs.declared.outcome.Leaving.{Leaving}
 use Rattle.settle.specs.IsOutcome.{leavings, LeavesBefore}
 use Rattle.settle.specs.Laws.{OutcomesAgree}
@@ -25,11 +26,6 @@ contains-from_among z (x ∷ xs) (inr among) =
     let rest = contains-from_among z xs among in
     let within : rest.0 < length xs = rest.1 in
     (suc rest.0, omega arith, rest.2)
-
-among-place : {X : Type 0} (xs : List X) (k : ℕ) (d : X) → k < length xs → Among (get_or xs k d) xs
-among-place [] k d within = absurd (omega arith)
-among-place (x ∷ xs) zero d within = inl refl
-among-place (x ∷ xs) (suc k) d within = inr (among-place xs k d (omega arith))
 
 among-from_contains : {X : Type 0} (z : X) (xs : List X) → Contains xs z → Among z xs
 among-from_contains z xs contains =

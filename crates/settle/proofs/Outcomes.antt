@@ -10,7 +10,7 @@ use Rattle.journal.specs.IsSetup.{IsSetup}
 use Rattle.journal.specs.Fates.{fate_in}
 use Rattle.settle.specs.declared.outcome.Leaving.{Leaving}
 use Rattle.settle.specs.OutcomeView.{OutcomeView}
-use Rattle.settle.specs.IsOutcome.{leaving_of, drop_line, counts_of, IsOutcome}
+use Rattle.settle.specs.IsOutcome.{leaving_of, drop_of, counts_of, IsOutcome}
 use Rattle.settle.proofs.InOrder.{tick_and_packet, pair_cmp, leavings-rise, packets-differ, sorted-in_order}
 
 -- a list of fates beside the packets is the packets, each with its fate
@@ -20,12 +20,12 @@ leavings-beside fate (p ∷ ps) [] = refl
 leavings-beside fate (p ∷ ps) (b ∷ bytes) =
     ap (cons_option (leaving_of p.number b (fate p))) (leavings-beside fate ps bytes)
 
-drops-beside : (fate : PacketPlan → Fate) (ps : List PacketPlan) → filter_map (λ p. drop_line p.0.number p.1) (zip ps (map fate ps)) ≡ filter_map (λ p. drop_line p.number (fate p)) ps
+drops-beside : (fate : PacketPlan → Fate) (ps : List PacketPlan) → filter_map (λ p. drop_of p.0.number p.1) (zip ps (map fate ps)) ≡ filter_map (λ p. drop_of p.number (fate p)) ps
 drops-beside fate [] = refl
-drops-beside fate (p ∷ ps) = ap (cons_option (drop_line p.number (fate p))) (drops-beside fate ps)
+drops-beside fate (p ∷ ps) = ap (cons_option (drop_of p.number (fate p))) (drops-beside fate ps)
 
 -- ps, qs and n are what the code reads as the packets and as the number of pipes
-pub IsOutcome-gathered : (S : SetupView) (visits : List Visit) (bytes : List (List ℕ)) (fates : List Fate) (ps qs : List PacketPlan) (n : ℕ) (left : List Leaving) (o : OutcomeView) → IsSetup S → fates ≡ map (fate_in visits) S.packets → ps ≡ S.packets → qs ≡ S.packets → n ≡ length S.pipes → left ≡ filter_map (λ p. leaving_of p.0.0.number p.1 p.0.1) (zip (zip ps fates) bytes) → IsPermutation left o.leaving → IsSortedByKey tick_and_packet pair_cmp o.leaving → o.dropped ≡ filter_map (λ p. drop_line p.0.number p.1) (zip qs fates) → o.pipe_counts ≡ map (counts_of visits) (range_with_len 0 n) → IsOutcome S visits bytes o
+pub IsOutcome-gathered : (S : SetupView) (visits : List Visit) (bytes : List (List ℕ)) (fates : List Fate) (ps qs : List PacketPlan) (n : ℕ) (left : List Leaving) (o : OutcomeView) → IsSetup S → fates ≡ map (fate_in visits) S.packets → ps ≡ S.packets → qs ≡ S.packets → n ≡ length S.pipes → left ≡ filter_map (λ p. leaving_of p.0.0.number p.1 p.0.1) (zip (zip ps fates) bytes) → IsPermutation left o.leaving → IsSortedByKey tick_and_packet pair_cmp o.leaving → o.dropped ≡ filter_map (λ p. drop_of p.0.number p.1) (zip qs fates) → o.pipe_counts ≡ map (counts_of visits) (range_with_len 0 n) → IsOutcome S visits bytes o
 IsOutcome-gathered S visits bytes fates ps qs n left o setup fates_are ps_are qs_are n_is left_are moved sorted dropped counted =
     let found =
     left_are
@@ -38,8 +38,8 @@ IsOutcome-gathered S visits bytes fates ps qs n left o setup fates_are ps_are qs
       in_order = sorted-in_order o.leaving sorted (packets-differ _ o.leaving (leavings-rise (fate_in visits) S.packets bytes setup.numbers_rise) permuted);
       dropped =
           dropped
-          ∙ ap (λ qs. filter_map (λ p. drop_line p.0.number p.1) (zip qs fates)) qs_are
-          ∙ ap (λ fates. filter_map (λ p. drop_line p.0.number p.1) (zip S.packets fates)) fates_are
+          ∙ ap (λ qs. filter_map (λ p. drop_of p.0.number p.1) (zip qs fates)) qs_are
+          ∙ ap (λ fates. filter_map (λ p. drop_of p.0.number p.1) (zip S.packets fates)) fates_are
           ∙ drops-beside (fate_in visits) S.packets;
       pipe_counts = counted ∙ ap (λ n. map (counts_of visits) (range_with_len 0 n)) n_is;
     }

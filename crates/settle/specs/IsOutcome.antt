@@ -21,9 +21,9 @@ leaving_of packet bytes (Left tick) = Some (record { tick = tick; packet = packe
 leaving_of packet bytes (Dropped pipe tick cause) = None
 
 -- the drop line of a packet with this fate, if it was dropped
-abbrev pub drop_line : ℕ → Fate → Option DropLine
-drop_line packet (Left tick) = None
-drop_line packet (Dropped pipe tick cause) =
+abbrev pub drop_of : ℕ → Fate → Option DropLine
+drop_of packet (Left tick) = None
+drop_of packet (Dropped pipe tick cause) =
     Some (record { packet = packet; pipe = pipe; tick = tick; cause = cause })
 
 -- the packets that left, in packet order, each with its bytes
@@ -32,7 +32,7 @@ leavings S J bytes = filter_map (λ p. leaving_of p.0.number p.1 (fate_in J p.0)
 
 -- the packets that were dropped, in packet order
 abbrev pub drop_lines : SetupView → List Visit → List DropLine
-drop_lines S J = filter_map (λ p. drop_line p.number (fate_in J p)) S.packets
+drop_lines S J = filter_map (λ p. drop_of p.number (fate_in J p)) S.packets
 
 abbrev pub has_lost : Step → Bool
 has_lost Lost = true

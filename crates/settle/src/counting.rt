@@ -9,6 +9,24 @@ use parcel::PipeCounts;
 use pipe::Step;
 use std::alloc::{AllocError, Global};
 
+/// What became of the visits to each of so many pipes, in pipe order.
+pub fn count_visits(
+    alloc: Global,
+    pipes: u32,
+    visits: &[Visit],
+) -> Result<Vec<PipeCounts>, NoMemory>
+    ensures { IfOk result (λ all. all.items ≡ map (counts_of visits.now) (range_with_len 0 pipes)) }
+{
+    let mut all = idle_pipes(alloc, pipes)?;
+    for visit in visits {
+        let place = visit.pipe as usize;
+        if place < all.len() {
+            all[place] = with_visit(all[place], visit.step);
+        }
+    }
+    Ok(all)
+}
+
 /// The counts with one more visit of this outcome.
 fn with_visit(counts: PipeCounts, step: Step) -> PipeCounts
     requires { HasRoom counts }
@@ -35,22 +53,4 @@ fn idle_pipes(alloc: Global, pipes: u32) -> Result<Vec<PipeCounts>, AllocError>
             full: 0,
         })
         .collect(alloc)
-}
-
-/// What became of the visits to each of so many pipes, in pipe order.
-pub fn count_visits(
-    alloc: Global,
-    pipes: u32,
-    visits: &[Visit],
-) -> Result<Vec<PipeCounts>, NoMemory>
-    ensures { IfOk result (λ all. all.items ≡ map (counts_of visits.now) (range_with_len 0 pipes)) }
-{
-    let mut all = idle_pipes(alloc, pipes)?;
-    for visit in visits {
-        let place = visit.pipe as usize;
-        if place < all.len() {
-            all[place] = with_visit(all[place], visit.step);
-        }
-    }
-    Ok(all)
 }

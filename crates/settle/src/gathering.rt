@@ -1,13 +1,40 @@
 ghost use Rattle.std.specs.Prelude.{◌≡◌, ◌<◌, [], length, map, filter_map, IfOk};
 ghost use Rattle.std.specs.List.{zip};
 ghost use Rattle.journal.specs.Fates.{fate_in};
-ghost use Rattle.settle.specs.IsOutcome.{leaving_of, drop_line, IsOutcome};
+ghost use Rattle.settle.specs.IsOutcome.{leaving_of, drop_of, IsOutcome};
 
 use crate::counting::count_visits;
 use crate::outcome::{DropLine, Leaving, Outcome};
 use journal::{Fate, PacketPlan, Setup, Visit};
 use mn_base::{Bytes, NoMemory};
 use std::alloc::{AllocError, Global};
+
+/// The outcome of a setup, by the list of all visits, the fates of the packets and their bytes. The packets that left are
+/// put in the order of (tick, packet).
+pub fn gather(
+    alloc: Global,
+    setup: &Setup,
+    visits: &[Visit],
+    fates: &[Fate],
+    bytes: Vec<Bytes>,
+) -> Result<Outcome, NoMemory>
+    requires fates { fates.now ≡ map (fate_in visits.now) setup.now.packets }
+    requires bytes { length bytes.items ≡ length setup.now.packets }
+    ensures outcome { IfOk result (IsOutcome setup.now visits.now bytes.items) }
+    ensures cores { IfOk result (λ o. o.cores ≡ []) }
+{
+    let parts = setup.parts();
+    let mut leaving = all_leaving(alloc, &parts.packets, fates, bytes)?;
+    leaving.sort_by_key(|left| (left.tick, left.packet))?;
+    let dropped = all_dropped(alloc, &parts.packets, fates)?;
+    let pipe_counts = count_visits(alloc, parts.pipes.len() as u32, visits)?;
+    Ok(Outcome {
+        leaving,
+        dropped,
+        pipe_counts,
+        cores: Vec::new(alloc),
+    })
+}
 
 fn leaving(packet: u32, fate: Fate, bytes: Bytes) -> Option<Leaving>
     ensures { result ≡ leaving_of packet bytes fate }
@@ -23,7 +50,7 @@ fn leaving(packet: u32, fate: Fate, bytes: Bytes) -> Option<Leaving>
 }
 
 fn dropped(packet: u32, fate: Fate) -> Option<DropLine>
-    ensures { result ≡ drop_line packet fate }
+    ensures { result ≡ drop_of packet fate }
 {
     match fate {
         Fate::Left { .. } => None,
@@ -57,38 +84,11 @@ fn all_dropped(
     packets: &[PacketPlan],
     fates: &[Fate],
 ) -> Result<Vec<DropLine>, AllocError>
-    ensures { IfOk result (λ v. v.items ≡ filter_map (λ p. drop_line p.0.number p.1) (zip packets.now fates.now)) }
+    ensures { IfOk result (λ v. v.items ≡ filter_map (λ p. drop_of p.0.number p.1) (zip packets.now fates.now)) }
 {
     packets
         .iter()
         .zip(fates)
         .filter_map(|(packet, fate)| dropped(packet.number, *fate))
         .collect(alloc)
-}
-
-/// The outcome of a setup, by the list of all visits, the fates of the packets and their bytes. The packets that left are
-/// put in the order of (tick, packet).
-pub fn gather(
-    alloc: Global,
-    setup: &Setup,
-    visits: &[Visit],
-    fates: &[Fate],
-    bytes: Vec<Bytes>,
-) -> Result<Outcome, NoMemory>
-    requires fates { fates.now ≡ map (fate_in visits.now) setup.now.packets }
-    requires bytes { length bytes.items ≡ length setup.now.packets }
-    ensures outcome { IfOk result (IsOutcome setup.now visits.now bytes.items) }
-    ensures cores { IfOk result (λ o. o.cores ≡ []) }
-{
-    let parts = setup.parts();
-    let mut leaving = all_leaving(alloc, &parts.packets, fates, bytes)?;
-    leaving.sort_by_key(|left| (left.tick, left.packet))?;
-    let dropped = all_dropped(alloc, &parts.packets, fates)?;
-    let pipe_counts = count_visits(alloc, parts.pipes.len() as u32, visits)?;
-    Ok(Outcome {
-        leaving,
-        dropped,
-        pipe_counts,
-        cores: Vec::new(alloc),
-    })
 }

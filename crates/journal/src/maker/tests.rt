@@ -1,5 +1,5 @@
 use crate::{Fate, PacketPlan, Setup, SetupParts, Visit, fates, journal};
-use mn_base::{Cause, PipeParams};
+use mn_base::PipeParams;
 use pipe::Step;
 use std::test::Fail;
 
@@ -11,63 +11,6 @@ const USUAL: PipeParams = PipeParams {
     queue: 50,
     keep: 4_294_967_296,
 };
-
-// The same, but each packet is lost.
-const LOSSY: PipeParams = PipeParams {
-    bps: 8_000_000,
-    latency_us: 5_000,
-    latency_ticks: 50,
-    queue: 50,
-    keep: 0,
-};
-
-#[test]
-fn a_packet_is_lost_at_the_second_pipe(rt: HostRuntime) -> Result<(), Fail> {
-    let alloc = rt.alloc();
-    let setup = Setup::new(SetupParts {
-        tick_ns: 100_000,
-        seed: 0,
-        base_ns: 0,
-        link_type: 101,
-        cores: 1,
-        pipes: vec![in alloc; USUAL, LOSSY]?,
-        owners: vec![in alloc; 0, 0]?,
-        routes: vec![in alloc; vec![in alloc; 0, 1]?]?,
-        packets: vec![in alloc;
-            PacketPlan {
-                number: 0,
-                entry_tick: 0,
-                len: 1_000,
-                route: 0,
-                core: 0
-            },
-        ]?,
-    });
-    let visits = journal(alloc, &setup)?;
-    assert_eq!(rt; visits.len(), 2);
-    assert_eq!(rt; visits[0].step, Step::Pass { exit: 60 });
-    assert_eq!(rt;
-        visits[1],
-        Visit {
-            tick: 60,
-            packet: 0,
-            hop: 1,
-            pipe: 1,
-            step: Step::Lost
-        }
-    );
-    let fates = fates(alloc, &setup)?;
-    assert_eq!(rt; fates.len(), 1);
-    assert_eq!(rt;
-        fates[0],
-        Fate::Dropped {
-            pipe: 1,
-            tick: 60,
-            cause: Cause::Loss
-        }
-    );
-    Ok(())
-}
 
 // Two packets come to one pipe at tick 60, over a pipe each, and a third enters there at that tick. By their numbers, 3 goes
 // first, then 5, then 10, which is empty and waits for both. Packet 9 has no pipes to pass.
