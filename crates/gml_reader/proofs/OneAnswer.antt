@@ -3,7 +3,7 @@ use Rattle.std.proofs.Common.{◌≡◌, ◌⊎◌, ℕ, List, length, refl, sym
 use Rattle.std.proofs.lemmas.Option.{same_Some}
 use Rattle.mn_base.specs.declared.refusal.Refusal.{Refusal}
 use Rattle.mn_base.specs.declared.refusal.Refusal.TheVariants as refusal
-use Rattle.mn_base.specs.Refused.{IfFault}
+use Rattle.mn_base.specs.Refused.{IfFault, Gives, Refuses}
 use Rattle.topo.specs.Topologies.{Graph}
 use Rattle.gml_lex.specs.declared.kinds.Token.{Token}
 use Rattle.gml_lex.specs.Tokens.{AreTokens, IsLexFault}
@@ -17,7 +17,7 @@ use Rattle.gml_reader.specs.Places.{IsMisplaced}
 use Rattle.gml_reader.specs.Values.{pairs}
 use Rattle.gml_reader.specs.Reading.{graph_in, file_fault, graph_topology}
 use Rattle.gml_reader.specs.Texts.{IsTextOf, Reads, StartsAt, IsFileFault, IsFirstFault}
-use Rattle.gml_reader.specs.Laws.{GivesTopology, GivesFault, ReadsOrFault, OneTopology, OneFault}
+use Rattle.gml_reader.specs.Laws.{ReadsOrFault, OneTopology, OneFault}
 use Rattle.gml_reader.proofs.OneTree.{one_tree}
 use Rattle.gml_reader.proofs.Misplacements.{one_misplaced, not_misplaced}
 
@@ -129,12 +129,12 @@ one_topology text topology other a b =
     a.read ∙ ap (λ t. graph_topology text (pairs t)) graph ∙ sym b.read
 
 -- ---- an answer is the only one
-pub gives_topology : (text : List ℕ) (r : Result Graph (Refusal GmlFault)) (topology : Graph) → IfOk r (Reads text) → IfErr r (λ e. IfFault e (IsFirstFault text)) → Reads text topology → GivesTopology topology r
+pub gives_topology : (text : List ℕ) (r : Result Graph (Refusal GmlFault)) (topology : Graph) → IfOk r (Reads text) → IfErr r (λ e. IfFault e (IsFirstFault text)) → Reads text topology → Gives topology r
 gives_topology text (Ok given) topology read told is = one_topology text given topology read is
 gives_topology text (Err refusal.NoMemory) topology read told is = tt
 gives_topology text (Err (refusal.Fault f)) topology read told is = reads_or_fault text topology f is told
 
-pub gives_fault : (text : List ℕ) (r : Result Graph (Refusal GmlFault)) (f : GmlFault) → IfOk r (Reads text) → IfErr r (λ e. IfFault e (IsFirstFault text)) → IsFirstFault text f → GivesFault f r
+pub gives_fault : (text : List ℕ) (r : Result Graph (Refusal GmlFault)) (f : GmlFault) → IfOk r (Reads text) → IfErr r (λ e. IfFault e (IsFirstFault text)) → IsFirstFault text f → Refuses f r
 gives_fault text (Ok given) f read told is = reads_or_fault text given f read is
 gives_fault text (Err refusal.NoMemory) f read told is = tt
 gives_fault text (Err (refusal.Fault g)) f read told is = one_fault text g f told is

@@ -27,33 +27,32 @@ pub record Reached (text : List ℕ) (t : Pairs) (rest : List Token) (nodes : Li
 pub Reached-start : (text : List ℕ) (t : Pairs) (tokens : List Token) → IsListIn (length text) t → tokens ≡ spelled t → Reached text t tokens [] []
 Reached-start text t tokens l is = record { left = t; list_left = l; rest_is = is; same = refl; nodes_are = refl; edges_are = refl }
 
-count_node : (text : List ℕ) (p : Pair) → length (nodes_in text (p ∷ [])) ≡ cond (is_node text p) 1 0
-count_node text p = by_test (is_node text p)
+-- ---- what is kept of a list and read
+count_kept : {X Y : Type 0} (keep : X → Bool) (read : X → Y) (x : X) → length (map read (filter keep (x ∷ []))) ≡ cond (keep x) 1 0
+count_kept keep read x = by_test (keep x)
   where
-    by_test : (b : Bool) → length (map (λ q. node_in text q.value) (cond b (p ∷ []) [])) ≡ cond b 1 0
+    by_test : (b : Bool) → length (map read (cond b (x ∷ []) [])) ≡ cond b 1 0
     by_test true = refl
     by_test false = refl
+
+kept-cons : {X Y : Type 0} (keep : X → Bool) (read : X → Y) (x : X) (xs : List X) → map read (filter keep (x ∷ xs)) ≡ map read (filter keep (x ∷ [])) ++ map read (filter keep xs)
+kept-cons keep read x xs = by_test (keep x)
+  where
+    by_test : (b : Bool) → map read (cond b (x ∷ filter keep xs) (filter keep xs)) ≡ map read (cond b (x ∷ []) []) ++ map read (filter keep xs)
+    by_test true = refl
+    by_test false = refl
+
+count_node : (text : List ℕ) (p : Pair) → length (nodes_in text (p ∷ [])) ≡ cond (is_node text p) 1 0
+count_node text p = count_kept (is_node text) (λ q. node_in text q.value) p
 
 count_edge : (text : List ℕ) (p : Pair) → length (edges_in text (p ∷ [])) ≡ cond (is_edge text p) 1 0
-count_edge text p = by_test (is_edge text p)
-  where
-    by_test : (b : Bool) → length (map (λ q. edge_in text q.value) (cond b (p ∷ []) [])) ≡ cond b 1 0
-    by_test true = refl
-    by_test false = refl
+count_edge text p = count_kept (is_edge text) (λ q. edge_in text q.value) p
 
 nodes_in-cons : (text : List ℕ) (p : Pair) (ps : List Pair) → nodes_in text (p ∷ ps) ≡ nodes_in text (p ∷ []) ++ nodes_in text ps
-nodes_in-cons text p ps = by_test (is_node text p)
-  where
-    by_test : (b : Bool) → map (λ q. node_in text q.value) (cond b (p ∷ filter (is_node text) ps) (filter (is_node text) ps)) ≡ map (λ q. node_in text q.value) (cond b (p ∷ []) []) ++ nodes_in text ps
-    by_test true = refl
-    by_test false = refl
+nodes_in-cons text p ps = kept-cons (is_node text) (λ q. node_in text q.value) p ps
 
 edges_in-cons : (text : List ℕ) (p : Pair) (ps : List Pair) → edges_in text (p ∷ ps) ≡ edges_in text (p ∷ []) ++ edges_in text ps
-edges_in-cons text p ps = by_test (is_edge text p)
-  where
-    by_test : (b : Bool) → map (λ q. edge_in text q.value) (cond b (p ∷ filter (is_edge text) ps) (filter (is_edge text) ps)) ≡ map (λ q. edge_in text q.value) (cond b (p ∷ []) []) ++ edges_in text ps
-    by_test true = refl
-    by_test false = refl
+edges_in-cons text p ps = kept-cons (is_edge text) (λ q. edge_in text q.value) p ps
 
 -- one pair more without a fault
 abbrev IsRead : List ℕ → List Node → List EdgeSpec → Pair → List Node → List EdgeSpec → Type 0

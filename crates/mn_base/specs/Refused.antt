@@ -1,4 +1,5 @@
 -- Refusals by their cause.
+use Rattle.std.specs.Prelude.{◌≡◌, Result, Ok, Err}
 use Rattle.mn_base.specs.declared.refusal.Refusal.{Refusal}
 use Rattle.mn_base.specs.declared.refusal.Refusal.TheVariants as refusal
 use Rattle.mn_base.specs.declared.refusal.Refusal.TheVariants.{Fault}
@@ -7,3 +8,15 @@ use Rattle.mn_base.specs.declared.refusal.Refusal.TheVariants.{Fault}
 abbrev pub IfFault : {F : Type 0} → Refusal F → (F → Type 0) → Type 0
 IfFault refusal.NoMemory P = Unit {0}
 IfFault (Fault f) P = P f
+
+-- the answer is this value, unless memory is wanting
+abbrev pub Gives : {X F : Type 0} → X → Result X (Refusal F) → Type 0
+Gives value (Ok given) = given ≡ value
+Gives value (Err refusal.NoMemory) = Unit {0}
+Gives value (Err (Fault f)) = ⊥
+
+-- the answer is this fault, unless memory is wanting
+abbrev pub Refuses : {X F : Type 0} → F → Result X (Refusal F) → Type 0
+Refuses fault (Ok given) = ⊥
+Refuses fault (Err refusal.NoMemory) = Unit {0}
+Refuses fault (Err (Fault f)) = f ≡ fault

@@ -4,7 +4,7 @@ use Rattle.std.specs.Result.{IfOk, IfErr}
 use Rattle.std.proofs.lemmas.Bool.Decides.{nat_tests}
 use Rattle.mn_base.specs.declared.refusal.Refusal.{Refusal}
 use Rattle.mn_base.specs.declared.refusal.Refusal.TheVariants as refusal
-use Rattle.mn_base.specs.Refused.{IfFault}
+use Rattle.mn_base.specs.Refused.{IfFault, Gives, Refuses}
 use Rattle.pcap_io.specs.declared.fault.PcapFault.{PcapFault}
 use Rattle.pcap_io.specs.declared.fault.PcapFault.TheVariants.{NotPcap, ShortHeader, Version, LinkType, Truncated, TimeRange, TooLong, TooMany}
 use Rattle.pcap_io.specs.declared.form.Form.{Form}
@@ -12,7 +12,6 @@ use Rattle.pcap_io.specs.declared.packet.Packet.{Packet}
 use Rattle.pcap_io.specs.Capture.{Capture, IsLinkType}
 use Rattle.pcap_io.specs.Form.{half, word}
 use Rattle.pcap_io.specs.Reading.{HasMagic, HasHeader, Splits, Pcap}
-use Rattle.pcap_io.specs.Answers.{GivesTrace, GivesFault}
 use Rattle.pcap_io.specs.Faults.{IsFirstFault, HasRecordFault, HasFaultBehindHeader, record_fault}
 use Rattle.pcap_io.proofs.Headers.{one_form, one_header}
 use Rattle.pcap_io.proofs.Splitting.{one_split, no_record_fault, one_record_fault, stuck_at_nothing}
@@ -168,13 +167,13 @@ refusal_behind form link_type text (refusal.Fault fault) header has = first_behi
 -- ---- what a reader answers that gives a reading or the first fault
 
 pub gives_trace : (text : List ℕ) (result : Result Capture (Refusal PcapFault)) (trace : Capture)
-    → IfOk result (Pcap text) → IfErr result (λ refusal. IfFault refusal (IsFirstFault text)) → Pcap text trace → GivesTrace trace result
+    → IfOk result (Pcap text) → IfErr result (λ refusal. IfFault refusal (IsFirstFault text)) → Pcap text trace → Gives trace result
 gives_trace text (Ok given) trace found fault p = one_reading text given trace found p
 gives_trace text (Err refusal.NoMemory) trace found fault p = tt
 gives_trace text (Err (refusal.Fault given)) trace found fault p = no_fault text trace given p fault
 
 pub gives_fault : (text : List ℕ) (result : Result Capture (Refusal PcapFault)) (fault : PcapFault)
-    → IfOk result (Pcap text) → IfErr result (λ refusal. IfFault refusal (IsFirstFault text)) → IsFirstFault text fault → GivesFault fault result
+    → IfOk result (Pcap text) → IfErr result (λ refusal. IfFault refusal (IsFirstFault text)) → IsFirstFault text fault → Refuses fault result
 gives_fault text (Ok given) fault found told has = no_fault text given fault found has
 gives_fault text (Err refusal.NoMemory) fault found told has = tt
 gives_fault text (Err (refusal.Fault given)) fault found told has = one_fault text given fault told has

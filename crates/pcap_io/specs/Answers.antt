@@ -1,13 +1,11 @@
 -- What the reader's functions answer, by cases.
 use Rattle.std.specs.Prelude.{◌≡◌, ℕ, ◌<◌, List, Some, Result, Ok, Err}
 use Rattle.mn_base.specs.declared.limits.TheConstants.{PACKETS_MAX}
-use Rattle.mn_base.specs.declared.refusal.Refusal.{Refusal}
-use Rattle.mn_base.specs.declared.refusal.Refusal.TheVariants as refusal
 use Rattle.pcap_io.specs.declared.fault.PcapFault.{PcapFault}
 use Rattle.pcap_io.specs.declared.form.Form.{Form}
 use Rattle.pcap_io.specs.declared.reading.Header.{Header}
 use Rattle.pcap_io.specs.declared.reading.RecordHeader.{RecordHeader}
-use Rattle.pcap_io.specs.Capture.{Capture, IsRecordTime}
+use Rattle.pcap_io.specs.Capture.{IsRecordTime}
 use Rattle.pcap_io.specs.Reading.{HasHeader, OpensWithRecord, time_ns, captured, original}
 use Rattle.pcap_io.specs.Faults.{IsFirstFault, record_fault}
 
@@ -25,15 +23,3 @@ abbrev pub ReadsRecord : Form → ℕ → List ℕ → Result RecordHeader PcapF
 ReadsRecord form n text (Ok header) =
     OpensWithRecord form text × (header ≡ record_header_of form text) × IsRecordTime header.time_ns × (n < PACKETS_MAX)
 ReadsRecord form n text (Err fault) = record_fault form n text ≡ Some fault
-
--- the answer is this trace, unless memory is wanting
-abbrev pub GivesTrace : Capture → Result Capture (Refusal PcapFault) → Type 0
-GivesTrace trace (Ok given) = given ≡ trace
-GivesTrace trace (Err refusal.NoMemory) = Unit {0}
-GivesTrace trace (Err (refusal.Fault given)) = ⊥
-
--- the answer is this fault, unless memory is wanting
-abbrev pub GivesFault : PcapFault → Result Capture (Refusal PcapFault) → Type 0
-GivesFault fault (Ok given) = ⊥
-GivesFault fault (Err refusal.NoMemory) = Unit {0}
-GivesFault fault (Err (refusal.Fault given)) = given ≡ fault

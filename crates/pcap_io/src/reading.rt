@@ -1,9 +1,9 @@
 ghost use Rattle.std.specs.Prelude.{◌≡◌, ℕ, ◌+◌, ◌*◌, ◌^◌, ◌<◌, ◌≤◌, [], length, drop, All, IfOk, IfErr, IsTrue, ◌↔◌};
-ghost use Rattle.mn_base.specs.Refused.{IfFault};
+ghost use Rattle.mn_base.specs.Refused.{IfFault, Gives, Refuses};
 ghost use Rattle.pcap_io.specs.Capture.{Capture, IsLinkType, IsPacket, IsRecordTime};
 ghost use Rattle.pcap_io.specs.Reading.{Splits, Pcap};
 ghost use Rattle.pcap_io.specs.Faults.{IsFirstFault, HasRecordFault};
-ghost use Rattle.pcap_io.specs.Answers.{ReadsHeader, ReadsRecord, GivesTrace, GivesFault};
+ghost use Rattle.pcap_io.specs.Answers.{ReadsHeader, ReadsRecord};
 ghost use Rattle.pcap_io.specs.declared.fault.PcapFault.{PcapFault};
 
 use crate::fault::PcapFault;
@@ -132,8 +132,8 @@ pub fn read_pcap(alloc: Global, text: &[u8]) -> Result<Trace, Refusal<PcapFault>
     requires { length text.now ≤ TRACE_BYTES_MAX }
     ensures found { IfOk result (λ trace. Pcap text.now trace) }
     ensures fault { IfErr result (λ refusal. IfFault refusal (IsFirstFault text.now)) }
-    ensures only_trace { (trace : Capture) → Pcap text.now trace → GivesTrace trace result }
-    ensures only_fault { (fault : PcapFault) → IsFirstFault text.now fault → GivesFault fault result }
+    ensures only_trace { (trace : Capture) → Pcap text.now trace → Gives trace result }
+    ensures only_fault { (fault : PcapFault) → IsFirstFault text.now fault → Refuses fault result }
     ensures times { IfOk result (λ trace. All (λ packet. IsRecordTime packet.time_ns) trace.packets) }
 {
     let header = match read_header(text) {
