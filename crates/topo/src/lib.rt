@@ -8,6 +8,7 @@ mod edges;
 mod faults;
 mod identity;
 mod keys;
+pub mod laws;
 mod linking;
 mod parts;
 mod topologies;
