@@ -4,7 +4,7 @@ use Rattle.gml_lex.specs.declared.pieces.Piece.{Piece}
 use Rattle.gml_lex.specs.Pieces.{piece_at, Pieces, place_behind}
 use Rattle.gml_lex.specs.Tokens.{tokens_of, TokensOrFault, OneReading, OneFault}
 
-piece_at-nil : piece_at [] ≡ None
+pub piece_at-nil : piece_at [] ≡ None
 unfolding piece_at
 piece_at-nil = refl
 

@@ -1,5 +1,5 @@
 -- The tokens of a text, and the place of its first fault.
-use Rattle.std.specs.Prelude.{◌≡◌, ◌≢◌, ℕ, ◌+◌, List, [], ◌∷◌, ◌++◌, None}
+use Rattle.std.specs.Prelude.{◌≡◌, ◌≢◌, ℕ, ◌+◌, ◌≤◌, ◌⊎◌, List, [], ◌∷◌, ◌++◌, None, AllPairs}
 use Rattle.std.specs.Option.{option_map_or}
 use Rattle.gml_lex.specs.declared.kinds.TokenKind.{TokenKind}
 use Rattle.gml_lex.specs.declared.kinds.Token.{Token}
@@ -33,7 +33,7 @@ pub record IsLexFault (text : List ℕ) (place : ℕ) : Type 0 where
   pub stuck : piece_at rest ≡ None
   pub place_is : place ≡ place_behind 0 pieces
 
--- a text has tokens or a fault, and not both
+-- no text has both tokens and a fault
 abbrev pub TokensOrFault : Type 0
 TokensOrFault = (text : List ℕ) (tokens : List Token) (place : ℕ) → AreTokens text tokens → IsLexFault text place → ⊥
 
@@ -44,3 +44,11 @@ OneReading = (text : List ℕ) (ts us : List Token) → AreTokens text ts → Ar
 -- a text has no other fault
 abbrev pub OneFault : Type 0
 OneFault = (text : List ℕ) (place other : ℕ) → IsLexFault text place → IsLexFault text other → place ≡ other
+
+-- each text has tokens or a fault
+abbrev pub IsAnswered : Type 0
+IsAnswered = (text : List ℕ) → ((tokens : List Token) × AreTokens text tokens) ⊎ ((place : ℕ) × IsLexFault text place)
+
+-- each token of a text ends where the next begins, or before
+abbrev pub SpansInOrder : Type 0
+SpansInOrder = (text : List ℕ) (tokens : List Token) → AreTokens text tokens → AllPairs (λ t u. t.end ≤ u.start) tokens

@@ -1,6 +1,6 @@
 //! Laws of the definitions. A law computes nothing; its clause is a fact.
 
-ghost use Rattle.gml_lex.specs.Tokens.{OneFault, OneReading, TokensOrFault};
+ghost use Rattle.gml_lex.specs.Tokens.{IsAnswered, OneFault, OneReading, SpansInOrder, TokensOrFault};
 
 /// No text has both tokens and a fault.
 pub fn tokens_or_fault()
@@ -15,4 +15,14 @@ pub fn one_reading()
 /// No text has two faults.
 pub fn one_fault()
     ensures { OneFault }
+{}
+
+/// Each text has tokens or a fault, so it has tokens exactly where it has no fault.
+pub fn each_text_is_answered()
+    ensures { IsAnswered }
+{}
+
+/// The spans of a text's tokens stand in order, and no two share a byte.
+pub fn spans_in_order()
+    ensures { SpansInOrder }
 {}

@@ -53,6 +53,8 @@ fn first_faults(rt: HostRuntime) {
     laws::tokens_or_fault();
     laws::one_reading();
     laws::one_fault();
+    laws::each_text_is_answered();
+    laws::spans_in_order();
     for (text, place) in [
         ("graph [ ? ]", 8),
         ("graph [ name \"x", 13),

@@ -1,5 +1,5 @@
 -- The nodes by their addresses, node by node, and what a look-up in a tree of them finds.
-use Rattle.std.proofs.Common.{◌≡◌, ◌<◌, ◌+◌, ◌==◌, ℕ, Bool, true, false, cond, List, [], ◌∷◌, length, take, get_or, refl, sym, ◌∙◌, ap, arith, Option, Some, None, length-take}
+use Rattle.std.proofs.Common.{◌≡◌, ◌<◌, ◌+◌, ◌==◌, ℕ, true, false, cond, List, [], ◌∷◌, length, take, get_or, refl, sym, ◌∙◌, ap, arith, Option, Some, None, length-take}
 use Rattle.std.proofs.lemmas.Bool.Decides.{nat_tests}
 use Rattle.std.proofs.lemmas.List.{take_more, length-take-le, get_or-take}
 use Rattle.std.proofs.lemmas.List.Quantifiers.{position-Some}
@@ -14,7 +14,7 @@ use Rattle.topo.specs.declared.parts.Node.{Node}
 use Rattle.topo.specs.Nodes.{has_address}
 use Rattle.topo.specs.Topologies.{DifferInAddress}
 use Rattle.topo.proofs.Firsts.{position_push}
-use Rattle.topo.proofs.SeenIds.{no_node}
+use Rattle.topo.proofs.SeenIds.{no_node, written, address_is}
 use Rattle.ip_bind.specs.Books.{node_with_address}
 
 lookup-find : (q : ℕ) (entries : List (ℕ × ℕ)) → lookup (tree.is_at (nat_cmp q)) entries ≡ map.find nat_cmp q entries
@@ -43,10 +43,6 @@ node_skipped nodes n q within none =
     ∙ ap (λ b. option_or (node_with_address (take n nodes) q) (cond b (Some n) None)) has_not
     ∙ or_none _)
 
-pub address_is : (o : Option ℕ) (a : ℕ) → option_map_or (λ x. x == a) o false ≡ true → o ≡ Some a
-address_is None a e = cc
-address_is (Some x) a e = let same : x ≡ a = grind (arith, nat_tests, e) in ap Some same
-
 -- no earlier node has the address of node n, since addresses differ
 not_earlier : (nodes : List Node) (n a : ℕ) → AllPairs DifferInAddress nodes → n < length nodes → let node = get_or nodes n no_node in node.address ≡ Some a → (found : Option ℕ) → node_with_address (take n nodes) a ≡ found → found ≡ None
 not_earlier nodes n a differ within has None e = refl
@@ -55,11 +51,6 @@ not_earlier nodes n a differ within has (Some i) e =
     let before : i < n = omega (arith, length-take n nodes, at_i.0) in
     let earlier : has_address a (get_or nodes i no_node) ≡ true = ap (has_address a) (sym (get_or-take n nodes i no_node before)) ∙ at_i.1 in
     absurd (differ i n no_node before within a (address_is _ a earlier) has)
-
-written : (b : Bool) (n : ℕ) (before now : Option ℕ) → now ≡ cond b (Some n) before → (b ≡ true → before ≡ None) → now ≡ option_or before (cond b (Some n) None)
-written true n before now e new = e ∙ ap (λ o. option_or o (Some n)) (sym (new refl))
-written false n None now e new = e
-written false n (Some x) now e new = e
 
 -- node n is written at its address
 pub node_written : (nodes : List Node) (n a q : ℕ) (before now : Option ℕ) → AllPairs DifferInAddress nodes → n < length nodes → let node = get_or nodes n no_node in node.address ≡ Some a → before ≡ node_with_address (take n nodes) q → now ≡ cond (is_eq (nat_cmp a q)) (Some n) before → now ≡ node_with_address (take (n + 1) nodes) q

@@ -1,5 +1,5 @@
--- What the law says.
-use Rattle.std.specs.Prelude.{◌≡◌, ◌↔◌, ℕ, List, Option, Some, slice_get}
+-- What the laws say.
+use Rattle.std.specs.Prelude.{◌≡◌, ◌≢◌, ◌↔◌, ℕ, List, Option, Some, None, slice_get}
 use Rattle.std.specs.Option.{option_and_then}
 use Rattle.topo.specs.declared.parts.Node.{Node}
 use Rattle.topo.specs.Topologies.{Graph, IsTopology}
@@ -12,3 +12,7 @@ address_of_node nodes n = option_and_then (λ node. node.address) (slice_get nod
 -- in a topology an address finds node n exactly where node n has it
 abbrev pub AddressNamesNode : Type 0
 AddressNamesNode = (t : Graph) → IsTopology t → (address n : ℕ) → (node_with_address t.nodes address ≡ Some n) ↔ (address_of_node t.nodes n ≡ Some address)
+
+-- an address finds no node exactly where no node has it
+abbrev pub AddressOfNoNode : Type 0
+AddressOfNoNode = (nodes : List Node) (address : ℕ) → (node_with_address nodes address ≡ None) ↔ ((n : ℕ) → address_of_node nodes n ≢ Some address)

@@ -1,8 +1,13 @@
-//! What holds of the definitions. This function computes nothing: its clause is the fact.
+//! What holds of the definitions. These functions compute nothing: their clauses are the facts.
 
-ghost use Rattle.ip_bind.specs.Laws.{AddressNamesNode};
+ghost use Rattle.ip_bind.specs.Laws.{AddressNamesNode, AddressOfNoNode};
 
-/// In a topology an address finds a node exactly where that node has it, so it finds none exactly where none has it.
+/// In a topology an address finds a node exactly where that node has it.
 pub fn address_names_node()
     ensures { AddressNamesNode }
+{}
+
+/// An address finds no node exactly where no node has it.
+pub fn address_of_no_node()
+    ensures { AddressOfNoNode }
 {}

@@ -4,3 +4,4 @@ pub mod InRange
 pub mod TooManyLinks
 pub mod Valid
 pub mod Refusals
+pub mod Faultless

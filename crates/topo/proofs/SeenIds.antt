@@ -1,9 +1,9 @@
--- Ids that were seen before, by the numbers of the nodes so far.
+-- Ids and addresses that were seen before, by the numbers of the nodes so far.
 use Rattle.std.proofs.Common.{◌≡◌, ◌<◌, ◌+◌, ◌==◌, ℕ, Bool, true, false, cond, List, length, take, get_or, refl, sym, ◌∙◌, ap, arith, Option, Some, None, is_some}
 use Rattle.std.proofs.lemmas.List.{take_more, length-take-le}
 use Rattle.std.proofs.lemmas.Bool.Decides.{nat_tests}
 use Rattle.std.specs.List.{list_any}
-use Rattle.std.specs.Option.{option_or}
+use Rattle.std.specs.Option.{option_or, option_map_or}
 use Rattle.std.specs.Ordering.{nat_cmp, is_eq}
 use Rattle.topo.specs.declared.parts.Node.{Node}
 use Rattle.topo.specs.declared.faults.TopoFault.TheVariants.{DuplicateId}
@@ -36,7 +36,8 @@ none_found : (o : Option ℕ) → is_some o ≡ false → o ≡ None
 none_found None e = refl
 none_found (Some x) e = cc
 
-written : (b : Bool) (n : ℕ) (before now : Option ℕ) → now ≡ cond b (Some n) before → (b ≡ true → before ≡ None) → now ≡ option_or before (cond b (Some n) None)
+-- a number is written at a key, which had none
+pub written : (b : Bool) (n : ℕ) (before now : Option ℕ) → now ≡ cond b (Some n) before → (b ≡ true → before ≡ None) → now ≡ option_or before (cond b (Some n) None)
 written true n before now e new = e ∙ ap (λ o. option_or o (Some n)) (sym (new refl))
 written false n None now e new = e
 written false n (Some x) now e new = e
@@ -55,3 +56,8 @@ numbers_more find now nodes n d q within changed so_far none =
     let node = get_or nodes n d in
     let tested : now q ≡ cond (node.id == q) (Some n) (find q) = changed ∙ ap (λ b. cond b (Some n) (find q)) (is_eq-nat_cmp node.id q) in
     written (node.id == q) n (find q) (now q) tested (λ e. same_key find node.id q e none) ∙ ap (λ o. option_or o (cond (node.id == q) (Some n) None)) so_far ∙ sym (node_with_more nodes n d q within)
+
+-- the address that a node is tested for is its own
+pub address_is : (o : Option ℕ) (a : ℕ) → option_map_or (λ x. x == a) o false ≡ true → o ≡ Some a
+address_is None a e = cc
+address_is (Some x) a e = let same : x ≡ a = grind (arith, nat_tests, e) in ap Some same

@@ -105,14 +105,14 @@ links_hold nodes edges directed none =
 
 -- ---- the whole
 -- the parts of the first fault, each none
-record HasNoFault (nodes : List Node) (specs : List EdgeSpec) (directed : Bool) : Type 0 where
-  counts : node_count_fault nodes ≡ None
-  ids : first_fault (id_fault nodes) 0 nodes ≡ None
-  addresses : first_fault (address_fault nodes) 0 nodes ≡ None
-  edges : first_fault (edge_fault (node_with nodes)) 0 specs ≡ None
-  links : link_count_fault directed (node_with nodes) specs ≡ None
+pub record HasNoFault (nodes : List Node) (specs : List EdgeSpec) (directed : Bool) : Type 0 where
+  pub counts : node_count_fault nodes ≡ None
+  pub ids : first_fault (id_fault nodes) 0 nodes ≡ None
+  pub addresses : first_fault (address_fault nodes) 0 nodes ≡ None
+  pub edges : first_fault (edge_fault (node_with nodes)) 0 specs ≡ None
+  pub links : link_count_fault directed (node_with nodes) specs ≡ None
 
-has_no_fault : (nodes : List Node) (specs : List EdgeSpec) (directed : Bool) → topo_fault nodes specs directed ≡ None → HasNoFault nodes specs directed
+pub has_no_fault : (nodes : List Node) (specs : List EdgeSpec) (directed : Bool) → topo_fault nodes specs directed ≡ None → HasNoFault nodes specs directed
 has_no_fault nodes specs directed none =
     let one = none_of_or (node_count_fault nodes) _ none in
     let two = none_of_or (first_fault (id_fault nodes) 0 nodes) _ one.1 in

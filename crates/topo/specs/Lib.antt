@@ -1,4 +1,5 @@
 pub mod Faults
+pub mod Laws
 pub mod Links
 pub mod Nodes
 pub mod Topologies

@@ -1,6 +1,6 @@
 // Valid topologies: nodes, links, and the first fault of what is none.
 // It stands on mn_base.
-// Its contracts speak in the first fault of specs/Faults.antt and in the links and the validity of specs/Topologies.antt.
+// Its contracts speak in the first fault (specs/Faults.antt), the links of edges (specs/Links.antt) and valid topologies (specs/Topologies.antt).
 #![tactic(auto)]
 
 mod counts;
@@ -8,6 +8,7 @@ mod edges;
 mod faults;
 mod identity;
 mod keys;
+pub mod laws;
 mod linking;
 mod parts;
 mod topologies;
