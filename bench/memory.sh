@@ -80,7 +80,7 @@ tests() {
             awk '
                 /^test .* [.][.][.] / { if (bad) printf "%s", block; bad = /FAILED/; block = $0 "\n"; next }
                 /^test result/ { if (bad) printf "%s", block; bad = 0 }
-                { block = block $0 "\n"; if (/memory|Memory|AllocError/) bad = 0 }
+                { block = block $0 "\n"; if (/memory|Memory|Alloc/) bad = 0 }
             ' "$folder/said"
         else
             cat "$folder/said"
