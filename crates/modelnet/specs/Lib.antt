@@ -1,5 +1,6 @@
 pub mod Answers
 pub mod Chain
+pub mod Ends
 pub mod Exact
 pub mod Forms
 pub mod Order

@@ -51,6 +51,7 @@ impl<'a, 'w> Rest<'a, 'w> {
         *self = ahead;
         Some(value)
     }
+
     /// How many words are left.
     pub fn len(&self) -> usize
         ensures { result ≡ length self.now }

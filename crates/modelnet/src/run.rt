@@ -37,6 +37,7 @@ pub fn chain_texts(
     ensures fault { IfErr result (λ refusal. IfFault refusal (IsFirstFault text.now)) }
 {
     let trace = read_pcap(alloc, text)?;
+    // A read of the trace, so that the proof knows what its type keeps.
     let _kept = trace.link_type();
     let Ok(texts) = run_chain(alloc, order, trace) else {
         return Err(Refusal::NoMemory);

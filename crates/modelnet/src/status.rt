@@ -1,3 +1,6 @@
+ghost use Rattle.std.specs.Prelude.{◌≡◌};
+ghost use Rattle.modelnet.specs.Ends.{status_number};
+
 use crate::words_fault::WordsFault;
 use mn_edge::Role;
 use pcap_io::PcapFault;
@@ -23,7 +26,9 @@ pub enum Status {
 
 impl Status {
     /// The number with which the program ends.
-    pub fn number(&self) -> u8 {
+    pub fn number(&self) -> u8
+        ensures number { result ≡ status_number self.now }
+    {
         match self {
             Status::Done => 0,
             Status::NoMemory => 1,

@@ -1,0 +1,144 @@
+#!/bin/bash
+# Refuses each allocation in turn, 1, 2, 3 .., until a run needs no more: of `chain`, or of the tests of a crate.
+#
+# usage: bench/memory.sh                      `chain` on the stored trace and on 60 packets over 3 pipes; some seconds
+#        bench/memory.sh CRATE [FROM [TO]]    the tests of that crate, by `rt try`; half a minute or more for each
+#                                             allocation, since it builds the tests each time
+#
+# `chain` is the built program (MODELNET names another than crates/modelnet/out/modelnet). A few lines of C in front of malloc and
+# realloc refuse it the Nth call, or that one and all after it. A refused run has to end in one of these ways:
+#   status 1 and `modelnet: no memory`, or no line where the line finds no memory either; no output was begun
+#   status 6 or 7 and its line, where the host found no memory for a kept name; the outputs before that role are whole, and
+#   that role has a front of its text
+#   status 0 and whole outputs, where the program can do without
+set -eu
+here=$(cd "$(dirname "${BASH_SOURCE[0]}")/.." && pwd)
+folder=$(mktemp -d)
+trap 'rm -rf "$folder"' EXIT
+
+out_is_whole() { cmp -s "$folder/out.pcap" "$folder/whole.pcap"; }
+report_is_whole() { cmp -s "$folder/report.txt" "$folder/whole.txt"; }
+no_out() { [ ! -e "$folder/out.pcap" ]; }
+no_report() { [ ! -e "$folder/report.txt" ]; }
+
+# usage: front FILE WHOLE: FILE is a front of WHOLE, or isn't there
+front() { [ ! -e "$1" ] || cmp -s -n "$(stat -c %s "$1")" "$1" "$2"; }
+cut_at_out() { front "$folder/out.pcap" "$folder/whole.pcap" && no_report; }
+cut_at_report() { out_is_whole && front "$folder/report.txt" "$folder/whole.txt"; }
+
+# usage: allowed STATUS LINE: a refused run may end so, and may have left what it left
+allowed() {
+    case "$1 $2" in
+        "0 ") out_is_whole && report_is_whole ;;
+        "1 " | "1 modelnet: no memory" | "6 modelnet: cannot read trace") no_out && no_report ;;
+        "7 modelnet: cannot write out") cut_at_out ;;
+        "7 modelnet: cannot write report") cut_at_report ;;
+        "6 ") [ "$REFUSE_FROM" = 1 ] && no_out && no_report ;;
+        "7 ") [ "$REFUSE_FROM" = 1 ] && { cut_at_out || cut_at_report; } ;;
+        *) false ;;
+    esac
+}
+
+# usage: sweep NAME TRACE PIPE..: refuses each allocation of one command line in turn
+sweep() {
+    local name=$1 trace=$2 number=0 status line
+    shift 2
+    local words=(chain --trace "$trace" --out "$folder/out.pcap" --report "$folder/report.txt" "$@")
+    "$binary" "${words[@]}"
+    mv "$folder/out.pcap" "$folder/whole.pcap"
+    mv "$folder/report.txt" "$folder/whole.txt"
+    : >"$folder/ends"
+    while true; do
+        number=$((number + 1))
+        rm -f "$folder/out.pcap" "$folder/report.txt"
+        status=0
+        LD_PRELOAD=$folder/refuse.so REFUSE=$number "$binary" "${words[@]}" 2>"$folder/line" 9>"$folder/refused" || status=$?
+        [ -s "$folder/refused" ] || break
+        line=$(cat "$folder/line")
+        echo "status $status, ${line:-no line}" >>"$folder/ends"
+        if ! allowed "$status" "$line"; then
+            echo "$name: allocation $number: status $status, '$line'" >&2
+            wrong=1
+        fi
+    done
+    if [ "$status" != 0 ] || ! out_is_whole || ! report_is_whole; then
+        echo "$name: a run with all its memory ended with status $status" >&2
+        wrong=1
+    fi
+    echo "$name: $((number - 1)) allocations refused"
+    sort "$folder/ends" | uniq -c
+}
+
+# usage: tests CRATE FROM TO: prints each test that fails with no word of memory. Without TO it ends when twice no test failed.
+tests() {
+    local number=$2 last=$3 passed=0
+    cd "$here/crates/$1"
+    while [ -n "$last" ] && [ "$number" -le "$last" ] || [ -z "$last" ] && [ "$passed" -lt 2 ]; do
+        rt try --test --fail-alloc "$number" >"$folder/said" 2>&1 || true
+        echo "allocation $number: $(grep -E '^test result' "$folder/said" || echo 'no result')"
+        if grep -q '^test result' "$folder/said"; then
+            awk '
+                /^test .* [.][.][.] / { if (bad) printf "%s", block; bad = /FAILED/; block = $0 "\n"; next }
+                /^test result/ { if (bad) printf "%s", block; bad = 0 }
+                { block = block $0 "\n"; if (/memory|Memory|Alloc/) bad = 0 }
+            ' "$folder/said"
+        else
+            cat "$folder/said"
+        fi
+        passed=$((passed + 1))
+        grep -q '^test result: ok' "$folder/said" || passed=0
+        number=$((number + 1))
+    done
+}
+
+if [ $# -gt 0 ]; then
+    tests "$1" "${2:-1}" "${3:-}"
+    exit 0
+fi
+
+binary=${MODELNET:-$here/crates/modelnet/out/modelnet}
+wrong=0
+cat >"$folder/refuse.c" <<'C'
+#include <stdlib.h>
+#include <unistd.h>
+
+void *__libc_malloc(size_t);
+void *__libc_realloc(void *, size_t);
+
+static long calls, refused, from;
+
+static int refuses(void) {
+    if (calls == 0) {
+        const char *number = getenv("REFUSE"), *on = getenv("REFUSE_FROM");
+        refused = number ? atol(number) : 0;
+        from = on && *on == '1';
+    }
+    calls++;
+    if (calls != refused && !(from && calls > refused)) return 0;
+    return write(9, "x", 1) == 1;
+}
+
+void *malloc(size_t size) { return refuses() ? NULL : __libc_malloc(size); }
+void *realloc(void *old, size_t size) { return refuses() ? NULL : __libc_realloc(old, size); }
+C
+cc -O1 -shared -fPIC -fno-builtin -o "$folder/refuse.so" "$folder/refuse.c"
+
+# 60 packets of 40 captured bytes, three at each tick.
+python3 - "$folder/in.pcap" <<'PY'
+import struct
+import sys
+
+with open(sys.argv[1], "wb") as out:
+    out.write(struct.pack("<IHHIIII", 0xA1B23C4D, 2, 4, 0, 0, 262144, 101))
+    for number in range(60):
+        out.write(struct.pack("<IIII", 0, number // 3 * 100_000, 40, 400))
+        out.write(bytes([number] * 40))
+PY
+
+for REFUSE_FROM in 0 1; do
+    export REFUSE_FROM
+    [ "$REFUSE_FROM" = 0 ] && how="one refused" || how="all refused from one on"
+    sweep "one packet, $how" "$here/crates/modelnet/data/in.pcap" 8000000:5000:50:0
+    sweep "60 packets, $how" "$folder/in.pcap" 8000000:50:8:0 100000000:300:50:100000 8000000:5000:3:0
+done
+exit "$wrong"
