@@ -10,7 +10,7 @@ use Rattle.journal.specs.IsSetup.{IsSetup}
 use Rattle.journal.specs.Dues.{Due, Before, due_of}
 use Rattle.journal.specs.IsJournal.{Rises}
 use Rattle.journal.specs.Journal.{hop_count}
-use Rattle.journal.proofs.Members.{among_from-filter}
+use Rattle.mn_base.proofs.Members.{Among-from-filter}
 use Rattle.journal.proofs.Order.{before-irreflexive, before-tick}
 use Rattle.journal.proofs.Delays.{Origin, origin}
 use Rattle.journal.proofs.Growing.{IsGrowing, IsEarlier, one_visit, earlier, apart}
@@ -90,7 +90,7 @@ module _ (S : SetupView) (is : IsSetup S) (J : List Visit) (g : IsGrowing S J) w
         where
           first : (w : Visit) → Among w (of_packet n rest) → v.hop < w.hop
           first w h =
-              let s = among_from-filter (λ (u : Visit). u.packet == n) w rest h in
+              let s = Among-from-filter (λ (u : Visit). u.packet == n) w rest h in
               hop-rises v w (all v (inl refl)) (all w (inr s.0)) (r.0 w s.0) (eqb-true _ _ t ∙ sym (eqb-true _ _ s.1))
 
   -- a visit is to a hop of its packet's route
@@ -126,7 +126,7 @@ module _ (S : SetupView) (is : IsSetup S) (J : List Visit) (g : IsGrowing S J) w
     where
       bounds : (v : Visit) → Among v (of_packet n J) → (0 ≤ v.hop) × (v.hop < length (route_of S n))
       bounds v h =
-          let s = among_from-filter (λ (u : Visit). u.packet == n) v J h in
+          let s = Among-from-filter (λ (u : Visit). u.packet == n) v J h in
           (omega arith, subst (λ (m : ℕ). v.hop < length (route_of S m)) (eqb-true _ _ s.1) (hop-within v s.0))
 
   pub growing_count : length J ≤ hop_count S

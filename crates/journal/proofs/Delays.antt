@@ -13,7 +13,7 @@ use Rattle.journal.specs.declared.visit.Visit.{Visit}
 use Rattle.journal.specs.SetupView.{SetupView, route_of, params_of, len_of}
 use Rattle.journal.specs.Dues.{Due, due_of, pipe_of, entry, hop_after, next_hop, dues}
 use Rattle.journal.specs.IsJournal.{arrivals, is_lost, step_of, visit_of}
-use Rattle.journal.proofs.Members.{among-left, among-right, among-cases, among-filter_map, among_from-filter_map, split_at}
+use Rattle.mn_base.proofs.Members.{Among-append-left, Among-append-right, Among-append, Among-filter_map, Among-from-filter_map, split_at}
 
 -- a first visit, by its packet
 pub record IsEntry (S : SetupView) (p : PacketPlan) (x : Due) : Type 0 where
@@ -59,18 +59,18 @@ Origin S J x = ((p : PacketPlan) × IsEntry S p x) ⊎ ((v : Visit) × IsNext S 
 
 -- each due visit is the first of a packet, or follows one of J
 pub origin : (S : SetupView) (J : List Visit) (x : Due) → Among x (dues S J) → Origin S J x
-origin S J x h = ⊎_elim first later (among-cases x (filter_map (entry S) S.packets) (filter_map (next_hop S) J) h)
+origin S J x h = ⊎_elim first later (Among-append x (filter_map (entry S) S.packets) (filter_map (next_hop S) J) h)
   where
     first : Among x (filter_map (entry S) S.packets) → Origin S J x
-    first l = let s = among_from-filter_map (entry S) x S.packets l in inl (s.0, entry_parts S s.0 x s.1 s.2)
+    first l = let s = Among-from-filter_map (entry S) x S.packets l in inl (s.0, entry_parts S s.0 x s.1 s.2)
 
     later : Among x (filter_map (next_hop S) J) → Origin S J x
-    later l = let s = among_from-filter_map (next_hop S) x J l in inr (s.0, next_parts S J s.0 x s.1 s.2)
+    later l = let s = Among-from-filter_map (next_hop S) x J l in inr (s.0, next_parts S J s.0 x s.1 s.2)
 
 pub due_from-entry : (S : SetupView) (J : List Visit) (p : PacketPlan) (x : Due) → IsEntry S p x → Among x (dues S J)
 due_from-entry S J p x i =
-    among-left x (filter_map (entry S) S.packets) (filter_map (next_hop S) J)
-    (among-filter_map (entry S) p x S.packets i.among (go (nat_lt 0 (length (route_of S p.number))) refl))
+    Among-append-left x (filter_map (entry S) S.packets) (filter_map (next_hop S) J)
+    (Among-filter_map (entry S) p x S.packets i.among (go (nat_lt 0 (length (route_of S p.number))) refl))
   where
     go : (b : Bool) → nat_lt 0 (length (route_of S p.number)) ≡ b → cond b (Some (record { tick = p.entry_tick; packet = p.number; hop = 0 })) None ≡ Some x
     go true t = ap Some (sym i.is)
@@ -85,8 +85,8 @@ next_hop-is S J v x i = ap (hop_after S v.packet v.hop) i.passed ∙ go (nat_lt 
 
 pub due_from-next : (S : SetupView) (J : List Visit) (v : Visit) (x : Due) → IsNext S J v x → Among x (dues S J)
 due_from-next S J v x i =
-    among-right x (filter_map (entry S) S.packets) (filter_map (next_hop S) J)
-    (among-filter_map (next_hop S) v x J i.among (next_hop-is S J v x i))
+    Among-append-right x (filter_map (entry S) S.packets) (filter_map (next_hop S) J)
+    (Among-filter_map (next_hop S) v x J i.among (next_hop-is S J v x i))
 
 -- what is known of a visit that passed
 pub record IsPass (at : ℕ → PipeParams) (T : ℕ) (h : List Arrival) (tick len : ℕ) (lost : Bool) (exit : ℕ) : Type 0 where

@@ -14,7 +14,7 @@ use Rattle.journal.specs.IsJournal.{Rises}
 use Rattle.journal.specs.Journal.{journal_of}
 use Rattle.journal.specs.Fates.{fate_at, last_visit}
 use Rattle.journal.specs.Laws.{EndsWay, WaysEnd, FatesHold, VisitsRise, HopsDiffer, HopsAreLater}
-use Rattle.journal.proofs.Members.{among-place, find-none, find-behind, reverse-split, among-reverse, among_from-map, SplitAt, split_at, among-right}
+use Rattle.mn_base.proofs.Members.{Among-place, find-none, find-behind, reverse-split, Among-reverse, Among-from-map, SplitAt, split_at, Among-append-right}
 use Rattle.journal.proofs.Order.{rises-across}
 use Rattle.journal.proofs.Delays.{next_parts, due_from-entry, due_from-next}
 use Rattle.journal.proofs.Growing.{IsGrowing, one_visit, earlier, apart, follows}
@@ -25,7 +25,7 @@ use Rattle.journal.proofs.Meets.{meets, journal-grows}
 rises-pairs : (J : List Visit) → Rises J → AllPairs (λ v w. Before (due_of v) (due_of w)) J
 rises-pairs [] r i j d l m = absurd (omega arith)
 rises-pairs (v ∷ J) r i zero d l m = absurd (omega arith)
-rises-pairs (v ∷ J) r zero (suc j) d l m = r.0 (slice_index_or J j d) (among-place J j d (omega arith))
+rises-pairs (v ∷ J) r zero (suc j) d l m = r.0 (slice_index_or J j d) (Among-place J j d (omega arith))
 rises-pairs (v ∷ J) r (suc i) (suc j) d l m = rises-pairs J r.1 i j d (omega arith) (omega arith)
 
 module _ (S : SetupView) (is : IsSetup S) where
@@ -43,7 +43,7 @@ module _ (S : SetupView) (is : IsSetup S) where
 
   -- what is due is visited
   visited : (x : Due) → Among x (dues S (journal_of S)) → (v : Visit) × Among v (journal_of S) × (due_of v ≡ x)
-  visited x a = among_from-map due_of x (journal_of S) ((meets S is).complete x a)
+  visited x a = Among-from-map due_of x (journal_of S) ((meets S is).complete x a)
 
   -- behind the visit that ends a packet's way no hop is visited
   none_behind : (v w : Visit) → Among v (journal_of S) → next_hop S v ≡ None → Among w (journal_of S) → w.packet ≡ v.packet → v.hop < w.hop → ⊥
@@ -100,16 +100,16 @@ module _ (S : SetupView) (is : IsSetup S) where
       others s u h = false_from_ne_true (u.packet == p.number) clash
         where
           behind : Among u s.rest
-          behind = among-reverse u s.rest h
+          behind = Among-reverse u s.rest h
 
           here : Among u (journal_of S)
-          here = subst (Among u) (sym s.is) (among-right u s.front (v ∷ s.rest) (inr behind))
+          here = subst (Among u) (sym s.is) (Among-append-right u s.front (v ∷ s.rest) (inr behind))
 
           rises : Rises (s.front ++ v ∷ [] ++ s.rest)
           rises = subst Rises (s.is ∙ sym (append_assoc s.front (v ∷ []) s.rest)) (meets S is).rises
 
           before : Before (due_of v) (due_of u)
-          before = rises-across (s.front ++ v ∷ []) s.rest v u rises (among-right v s.front (v ∷ []) (inl refl)) behind
+          before = rises-across (s.front ++ v ∷ []) s.rest v u rises (Among-append-right v s.front (v ∷ []) (inl refl)) behind
 
           clash : (u.packet == p.number) ≡ true → ⊥
           clash t =
@@ -124,7 +124,7 @@ module _ (S : SetupView) (is : IsSetup S) where
         where
           clash : (u.packet == p.number) ≡ true → ⊥
           clash t =
-              let within : u.hop < length (route_of S u.packet) = hop-within S is (journal_of S) grows u (among-reverse u (journal_of S) h) in
+              let within : u.hop < length (route_of S u.packet) = hop-within S is (journal_of S) grows u (Among-reverse u (journal_of S) h) in
               let long : length (route_of S u.packet) ≡ 0 = ap (λ (n : ℕ). length (route_of S n)) (eqb-true _ _ t) ∙ ap length e in
               omega (arith, within, long)
 

@@ -9,7 +9,7 @@ use Rattle.journal.specs.IsSetup.{IsSetup}
 use Rattle.journal.specs.Dues.{Due, Before, due_of, next_hop, dues}
 use Rattle.journal.specs.IsJournal.{Rises, IsJournal, visit_of}
 use Rattle.journal.specs.Journal.{is_done}
-use Rattle.journal.proofs.Members.{among-left, among-push, among-push_cases, among-map, among_from-map, list_any-true, among_from-list_any, split_push, all_pairs-among}
+use Rattle.mn_base.proofs.Members.{Among-append-left, Among-last, Among-push, Among-map, Among-from-map, list_any-true, Among-from-list_any, split_push, AllPairs-Among}
 use Rattle.journal.proofs.Order.{before_cases, before-tick, rises-push, rises-same}
 use Rattle.journal.proofs.Delays.{Origin, origin, due_from-entry, due_from-next, next_hop-is, next-later, AreOutcomes}
 
@@ -32,13 +32,13 @@ pub record IsDone (J : List Visit) (x : Due) : Type 0 where
 
 pub done_parts : (J : List Visit) (x : Due) → is_done J x ≡ true → IsDone J x
 done_parts J x e =
-    let s = among_from-list_any (λ (u : Visit). (u.packet == x.packet) && (u.hop == x.hop)) J e in
+    let s = Among-from-list_any (λ (u : Visit). (u.packet == x.packet) && (u.hop == x.hop)) J e in
     let t = and_parts (s.0.packet == x.packet) (s.0.hop == x.hop) s.2 in
     record { visit = s.0; among = s.1; packet = eqb-true _ _ t.0; hop = eqb-true _ _ t.1 }
 
 -- a packet's number names one packet
 pub one_packet : (S : SetupView) → IsSetup S → (p q : PacketPlan) → Among p S.packets → Among q S.packets → p.number ≡ q.number → p ≡ q
-one_packet S is p q h k e = go (all_pairs-among (λ (a b : PacketPlan). a.number < b.number) p q S.packets is.numbers_rise h k)
+one_packet S is p q h k e = go (AllPairs-Among (λ (a b : PacketPlan). a.number < b.number) p q S.packets is.numbers_rise h k)
   where
     go : (p ≡ q) ⊎ ((p.number < q.number) ⊎ (q.number < p.number)) → p ≡ q
     go (inl same) = same
@@ -169,8 +169,8 @@ module _ (S : SetupView) (is : IsSetup S) (J : List Visit) (g : IsGrowing S J) w
     rises = g.rises;
     complete = λ x a. let d = done_parts J x (all x a) in
         let one : due_of d.visit ≡ x = one_due (due_of d.visit) x (g.sound d.visit d.among) a d.packet d.hop in
-        subst (λ (y : Due). Among y (map due_of J)) one (among-map due_of d.visit J d.among);
-    sound = λ x a. let s = among_from-map due_of x J a in subst (λ (y : Due). Among y (dues S J)) s.2 (g.sound s.0 s.1);
+        subst (λ (y : Due). Among y (map due_of J)) one (Among-map due_of d.visit J d.among);
+    sound = λ x a. let s = Among-from-map due_of x J a in subst (λ (y : Due). Among y (dues S J)) s.2 (g.sound s.0 s.1);
     outcomes = g.outcomes;
   }
 
@@ -187,7 +187,7 @@ module _ (S : SetupView) (is : IsSetup S) (J : List Visit) (g : IsGrowing S J) w
       go false t = t
       go true t =
           let d = done_parts J y t in
-          absurd (true≢false (sym (is_done-true (J ++ v ∷ []) d.visit y (among-left d.visit J (v ∷ []) d.among) d.packet d.hop) ∙ e))
+          absurd (true≢false (sym (is_done-true (J ++ v ∷ []) d.visit y (Among-append-left d.visit J (v ∷ []) d.among) d.packet d.hop) ∙ e))
 
   -- what waits behind x comes after x
   least-before : (x y : Due) → IsLeast x → Among y (dues S J) → is_done J y ≡ false → (x ≡ y → ⊥) → Before x y
@@ -203,7 +203,7 @@ module _ (S : SetupView) (is : IsSetup S) (J : List Visit) (g : IsGrowing S J) w
     where
       go : Origin S J y → Among y (dues S (J ++ v ∷ []))
       go (inl m) = due_from-entry S (J ++ v ∷ []) m.0 y m.1
-      go (inr m) = let i = m.1 in due_from-next S (J ++ v ∷ []) m.0 y (record { among = among-left m.0 J (v ∷ []) i.among; exit = i.exit; passed = i.passed; is = i.is; within = i.within })
+      go (inr m) = let i = m.1 in due_from-next S (J ++ v ∷ []) m.0 y (record { among = Among-append-left m.0 J (v ∷ []) i.among; exit = i.exit; passed = i.passed; is = i.is; within = i.within })
 
   -- with one visit more, the least that waits, a list is still growing
   pub growing_more : (x : Due) → IsLeast x → IsGrowing S (J ++ visit_of S J x ∷ [])
@@ -219,7 +219,7 @@ module _ (S : SetupView) (is : IsSetup S) (J : List Visit) (g : IsGrowing S J) w
       rising = rises-push J new g.rises behind
 
       sounds : (v : Visit) → Among v (J ++ new ∷ []) → Among (due_of v) (dues S (J ++ new ∷ []))
-      sounds v a = ⊎_elim (λ old. dues-more new (due_of v) (g.sound v old)) (λ e. subst (λ (u : Visit). Among (due_of u) (dues S (J ++ new ∷ []))) e (dues-more new x l.due)) (among-push_cases v J new a)
+      sounds v a = ⊎_elim (λ old. dues-more new (due_of v) (g.sound v old)) (λ e. subst (λ (u : Visit). Among (due_of u) (dues S (J ++ new ∷ []))) e (dues-more new x l.due)) (Among-push v J new a)
 
       outcome : AreOutcomes S (J ++ new ∷ [])
       outcome front rest v e = ⊎_elim fresh (λ old. g.outcomes front old.0 v old.1) (split_push J new front rest v e)
@@ -228,13 +228,13 @@ module _ (S : SetupView) (is : IsSetup S) (J : List Visit) (g : IsGrowing S J) w
           fresh s = s.1 ∙ sym (ap (λ (f : List Visit). visit_of S f (due_of v)) s.0 ∙ ap (λ (u : Visit). visit_of S J (due_of u)) s.1)
 
       leads : (v : Visit) (y : Due) → Among v (J ++ new ∷ []) → Among y (dues S (J ++ new ∷ [])) → is_done (J ++ new ∷ []) y ≡ false → Before (due_of v) y
-      leads v y a b w = go (origin S (J ++ new ∷ []) y b) (among-push_cases v J new a)
+      leads v y a b w = go (origin S (J ++ new ∷ []) y b) (Among-push v J new a)
         where
           waits : is_done J y ≡ false
           waits = is_done-push new y w
 
           other : x ≡ y → ⊥
-          other e = true≢false (sym (is_done-true (J ++ new ∷ []) new y (among-push J new) (ap (λ (d : Due). d.packet) e) (ap (λ (d : Due). d.hop) e)) ∙ w)
+          other e = true≢false (sym (is_done-true (J ++ new ∷ []) new y (Among-last new J) (ap (λ (d : Due). d.packet) e) (ap (λ (d : Due). d.hop) e)) ∙ w)
 
           old : Among y (dues S J) → (Among v J) ⊎ (new ≡ v) → Before (due_of v) y
           old d (inl h) = g.ahead v y h d waits
@@ -242,7 +242,7 @@ module _ (S : SetupView) (is : IsSetup S) (J : List Visit) (g : IsGrowing S J) w
 
           go : Origin S (J ++ new ∷ []) y → (Among v J) ⊎ (new ≡ v) → Before (due_of v) y
           go (inl m) o = old (due_from-entry S J m.0 y m.1) o
-          go (inr m) o = ⊎_elim (λ h. old (due_from-next S J m.0 y (record { among = h; exit = m.1.exit; passed = m.1.passed; is = m.1.is; within = m.1.within })) o) next (among-push_cases m.0 J new m.1.among)
+          go (inr m) o = ⊎_elim (λ h. old (due_from-next S J m.0 y (record { among = h; exit = m.1.exit; passed = m.1.passed; is = m.1.is; within = m.1.within })) o) next (Among-push m.0 J new m.1.among)
             where
               next : new ≡ m.0 → Before (due_of v) y
               next e = place o
@@ -273,12 +273,12 @@ growing-nil S = record {
 pub growing_from-journal : (S : SetupView) (J : List Visit) → IsJournal S J → IsGrowing S J
 growing_from-journal S J j = record {
   rises = j.rises;
-  sound = λ v a. j.sound (due_of v) (among-map due_of v J a);
+  sound = λ v a. j.sound (due_of v) (Among-map due_of v J a);
   outcomes = j.outcomes;
   ahead = λ v x h a w. absurd (none x a w);
 }
   where
     none : (x : Due) → Among x (dues S J) → is_done J x ≡ false → ⊥
     none x a w =
-        let s = among_from-map due_of x J (j.complete x a) in
+        let s = Among-from-map due_of x J (j.complete x a) in
         true≢false (sym (is_done-true J s.0 x s.1 (ap (λ (d : Due). d.packet) s.2) (ap (λ (d : Due). d.hop) s.2)) ∙ w)

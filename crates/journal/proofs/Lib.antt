@@ -5,7 +5,6 @@ pub mod FateMaps
 pub mod Growing
 pub mod Making
 pub mod Meets
-pub mod Members
 pub mod Numbers
 pub mod OneJournal
 pub mod Order

@@ -9,7 +9,7 @@ use Rattle.journal.specs.IsSetup.{IsSetup}
 use Rattle.journal.specs.Dues.{Due, Before, dues}
 use Rattle.journal.specs.IsJournal.{IsJournal, visit_of}
 use Rattle.journal.specs.Journal.{hop_count, is_done, waiting, is_before, lesser, least, more, grown, journal_of}
-use Rattle.journal.proofs.Members.{among-filter, among_from-filter}
+use Rattle.mn_base.proofs.Members.{Among-filter, Among-from-filter}
 use Rattle.journal.proofs.Order.{before-irreflexive, before-asymmetric, not_before-transitive}
 use Rattle.journal.proofs.Growing.{IsGrowing, IsLeast, growing_more, growing_whole, growing-nil, growing_from-journal}
 use Rattle.journal.proofs.Count.{growing_count}
@@ -77,11 +77,11 @@ module _ (S : SetupView) (is : IsSetup S) where
   least-waits : (J : List Visit) (g : IsGrowing S J) (x : Due) → least (waiting S J) ≡ Some x → IsLeast S is J g x
   least-waits J g x e =
       let f = least_parts x (waiting S J) e in
-      let s = among_from-filter (λ (d : Due). not (is_done J d)) x (dues S J) f.among in
+      let s = Among-from-filter (λ (d : Due). not (is_done J d)) x (dues S J) f.among in
       record {
         due = s.0;
         waits = not-true (is_done J x) s.1;
-        least = λ y a w. f.least y (among-filter (λ (d : Due). not (is_done J d)) y (dues S J) a (not_from_false (is_done J y) w));
+        least = λ y a w. f.least y (Among-filter (λ (d : Due). not (is_done J d)) y (dues S J) a (not_from_false (is_done J y) w));
       }
 
   none_waits : (J : List Visit) → least (waiting S J) ≡ None → (x : Due) → Among x (dues S J) → is_done J x ≡ true
@@ -93,7 +93,7 @@ module _ (S : SetupView) (is : IsSetup S) where
 
       go : (b : Bool) → is_done J x ≡ b → is_done J x ≡ true
       go true t = t
-      go false t = absurd (empty (waiting S J) e (among-filter (λ (d : Due). not (is_done J d)) x (dues S J) a (not_from_false (is_done J x) t)))
+      go false t = absurd (empty (waiting S J) e (Among-filter (λ (d : Due). not (is_done J d)) x (dues S J) a (not_from_false (is_done J x) t)))
 
   -- where nothing waits nothing is added
   grown-whole : (n : ℕ) (J : List Visit) → least (waiting S J) ≡ None → grown S n J ≡ J

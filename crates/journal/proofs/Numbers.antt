@@ -7,7 +7,7 @@ use Rattle.mn_base.specs.Among.{Among}
 use Rattle.journal.specs.declared.setup.PacketPlan.{PacketPlan}
 use Rattle.journal.specs.SetupView.{SetupView, packet_of}
 use Rattle.journal.specs.IsSetup.{IsSetup}
-use Rattle.journal.proofs.Members.{among-find, find-some, find-none, among-place, PlaceOf, place_of}
+use Rattle.mn_base.proofs.Members.{Among-find, find-some, find-none, Among-place, PlaceOf, place_of}
 use Rattle.journal.proofs.Growing.{one_packet}
 
 pub numbers-order : (S : SetupView) → IsSetup S → IsNonDecreasingBy (λ p. p.number) S.packets
@@ -22,7 +22,7 @@ numbers-order S is i j d le within = go (cases_order i j)
 pub found : (S : SetupView) → IsSetup S → (p : PacketPlan) (n : ℕ) → Among p S.packets → p.number ≡ n → Some p ≡ packet_of S n
 found S is p n a e =
     let f = find-some (λ (q : PacketPlan). q.number == n) p S.packets a (eq-eqb _ _ e) in
-    let y = among-find (λ (q : PacketPlan). q.number == n) f.0 S.packets f.1 in
+    let y = Among-find (λ (q : PacketPlan). q.number == n) f.0 S.packets f.1 in
     ap Some (one_packet S is p f.0 a y.0 (e ∙ sym (eqb-true _ _ y.1))) ∙ sym f.1
 
 -- and there is none, where the first whose number isn't below has another number
@@ -52,7 +52,7 @@ absent S is n i parts other = sym (find-none (λ (p : PacketPlan). p.number == n
 -- the same for a list that is the setup's packets, at a place of it
 pub found_at : (S : SetupView) → IsSetup S → (xs : List PacketPlan) (i n : ℕ) (d : PacketPlan) → xs ≡ S.packets → i < length xs → (get_or xs i d).number ≡ n → Some (get_or xs i d) ≡ packet_of S n
 found_at S is xs i n d same within e =
-    found S is (get_or xs i d) n (subst (Among (get_or xs i d)) same (among-place xs i d within)) e
+    found S is (get_or xs i d) n (subst (Among (get_or xs i d)) same (Among-place xs i d within)) e
 
 pub absent_at : (S : SetupView) → IsSetup S → (xs : List PacketPlan) (i n : ℕ) (d : PacketPlan) → xs ≡ S.packets
     → IsPartitionPoint (λ (p : PacketPlan). ltb p.number n ≡ true) (λ (p : PacketPlan). ltb p.number n ≡ false) xs i

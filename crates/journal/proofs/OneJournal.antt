@@ -7,7 +7,7 @@ use Rattle.journal.specs.SetupView.{SetupView}
 use Rattle.journal.specs.Dues.{Due, Before, due_of, dues}
 use Rattle.journal.specs.IsJournal.{Rises, IsJournal, visit_of}
 use Rattle.journal.specs.Laws.{HasOneJournal}
-use Rattle.journal.proofs.Members.{among-left, among-right, among-cases, among-map, among_from-map}
+use Rattle.mn_base.proofs.Members.{Among-append-left, Among-append-right, Among-append, Among-map, Among-from-map}
 use Rattle.journal.proofs.Order.{before-irreflexive, before-asymmetric, rises-across, rises-rest, rises-in_front}
 use Rattle.journal.proofs.Delays.{Origin, origin, due_from-entry, due_from-next, next-later}
 
@@ -15,10 +15,10 @@ module _ (S : SetupView) (pos : 0 < S.tick_ns) where
   -- a visit that follows a common front in one journal stands in the other, too, and not in the front
   carried : (front j k : List Visit) (w : Visit) → IsJournal S (front ++ j) → IsJournal S (front ++ w ∷ k)
       → (v : Visit) × Among v j × (due_of v ≡ due_of w)
-  carried front j k w J K = placed (among_from-map due_of (due_of w) (front ++ j) (J.complete (due_of w) due))
+  carried front j k w J K = placed (Among-from-map due_of (due_of w) (front ++ j) (J.complete (due_of w) due))
     where
       in_K : Among w (front ++ w ∷ k)
-      in_K = among-right w front (w ∷ k) (inl refl)
+      in_K = Among-append-right w front (w ∷ k) (inl refl)
 
       moved : Origin S (front ++ w ∷ k) (due_of w) → Among (due_of w) (dues S (front ++ j))
       moved (inl e) = due_from-entry S (front ++ j) e.0 (due_of w) e.1
@@ -26,13 +26,13 @@ module _ (S : SetupView) (pos : 0 < S.tick_ns) where
           let i = n.1 in
           let before : Before (due_of n.0) (due_of w) = inl (next-later S (front ++ w ∷ k) n.0 (due_of w) pos K.outcomes i) in
           let u_in = rises-in_front front k n.0 w K.rises i.among before in
-          due_from-next S (front ++ j) n.0 (due_of w) (record { among = among-left n.0 front j u_in; exit = i.exit; passed = i.passed; is = i.is; within = i.within })
+          due_from-next S (front ++ j) n.0 (due_of w) (record { among = Among-append-left n.0 front j u_in; exit = i.exit; passed = i.passed; is = i.is; within = i.within })
 
       due : Among (due_of w) (dues S (front ++ j))
-      due = moved (origin S (front ++ w ∷ k) (due_of w) (K.sound (due_of w) (among-map due_of w (front ++ w ∷ k) in_K)))
+      due = moved (origin S (front ++ w ∷ k) (due_of w) (K.sound (due_of w) (Among-map due_of w (front ++ w ∷ k) in_K)))
 
       placed : (v : Visit) × Among v (front ++ j) × (due_of v ≡ due_of w) → (v : Visit) × Among v j × (due_of v ≡ due_of w)
-      placed s = ⊎_elim in_front (λ l. (s.0, l, s.2)) (among-cases s.0 front j s.1)
+      placed s = ⊎_elim in_front (λ l. (s.0, l, s.2)) (Among-append s.0 front j s.1)
         where
           in_front : Among s.0 front → (v : Visit) × Among v j × (due_of v ≡ due_of w)
           in_front l = absurd (before-irreflexive (due_of w) (subst (λ (d : Due). Before d (due_of w)) s.2 (rises-across front (w ∷ k) s.0 w K.rises l (inl refl))))

@@ -5,7 +5,7 @@ use Rattle.mn_base.specs.Among.{Among}
 use Rattle.journal.specs.declared.visit.Visit.{Visit}
 use Rattle.journal.specs.Dues.{Due, Before, due_of}
 use Rattle.journal.specs.IsJournal.{Rises}
-use Rattle.journal.proofs.Members.{among-left, among-right, among-cases}
+use Rattle.mn_base.proofs.Members.{Among-append-left, Among-append-right, Among-append}
 
 pub before-irreflexive : (x : Due) → Before x x → ⊥
 before-irreflexive x (inl l) = absurd (omega arith)
@@ -57,7 +57,7 @@ rises-push [] v r all = (λ w h. absurd h, tt)
 rises-push (u ∷ J) v r all = (first, rises-push J v r.1 (λ w h. all w (inr h)))
   where
     first : (w : Visit) → Among w (J ++ v ∷ []) → Before (due_of u) (due_of w)
-    first w h = ⊎_elim (λ l. r.0 w l) behind (among-cases w J (v ∷ []) h)
+    first w h = ⊎_elim (λ l. r.0 w l) behind (Among-append w J (v ∷ []) h)
       where
         behind : Among w (v ∷ []) → Before (due_of u) (due_of w)
         behind (inl e) = subst (λ (z : Visit). Before (due_of u) (due_of z)) e (all u (inl refl))
@@ -66,13 +66,13 @@ rises-push (u ∷ J) v r all = (first, rises-push J v r.1 (λ w h. all w (inr h)
 pub rises-front : (front rest : List Visit) → Rises (front ++ rest) → Rises front
 rises-front [] rest r = tt
 rises-front (v ∷ front) rest r =
-    (λ w h. r.0 w (among-left w front rest h), rises-front front rest r.1)
+    (λ w h. r.0 w (Among-append-left w front rest h), rises-front front rest r.1)
 
 -- all of a front is before what follows it
 pub rises-across : (front rest : List Visit) (u w : Visit) → Rises (front ++ rest) → Among u front → Among w rest → Before (due_of u) (due_of w)
 rises-across [] rest u w r h k = absurd h
 rises-across (v ∷ front) rest u w r (inl e) k =
-    subst (λ (z : Visit). Before (due_of z) (due_of w)) e (r.0 w (among-right w front rest k))
+    subst (λ (z : Visit). Before (due_of z) (due_of w)) e (r.0 w (Among-append-right w front rest k))
 rises-across (v ∷ front) rest u w r (inr h) k = rises-across front rest u w r.1 h k
 
 pub rises-rest : (front rest : List Visit) → Rises (front ++ rest) → Rises rest
@@ -81,7 +81,7 @@ rises-rest (v ∷ front) rest r = rises-rest front rest r.1
 
 -- a visit that is before v stands in front of v
 pub rises-in_front : (front rest : List Visit) (u v : Visit) → Rises (front ++ v ∷ rest) → Among u (front ++ v ∷ rest) → Before (due_of u) (due_of v) → Among u front
-rises-in_front front rest u v r h b = ⊎_elim (λ l. l) behind (among-cases u front (v ∷ rest) h)
+rises-in_front front rest u v r h b = ⊎_elim (λ l. l) behind (Among-append u front (v ∷ rest) h)
   where
     behind : Among u (v ∷ rest) → Among u front
     behind (inl e) = absurd (before-irreflexive (due_of v) (subst (λ (z : Visit). Before (due_of z) (due_of v)) (sym e) b))

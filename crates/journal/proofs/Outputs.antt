@@ -13,7 +13,7 @@ use Rattle.journal.specs.Dues.{due_of, pipe_of}
 use Rattle.journal.specs.Journal.{journal_of}
 use Rattle.journal.specs.Fates.{fate_by}
 use Rattle.journal.specs.Laws.{TimesFit, OutputsFit}
-use Rattle.journal.proofs.Members.{all-among}
+use Rattle.mn_base.proofs.Members.{All-Among}
 use Rattle.journal.proofs.Growing.{IsGrowing}
 use Rattle.journal.proofs.Meets.{journal-grows}
 use Rattle.journal.proofs.Ends.{ways_end, fates_hold}
@@ -62,14 +62,14 @@ module _ (S : SetupView) (is : IsSetup S) where
       exits v exit a passed =
           let t = in_time v exit a passed in
           let late : exit * S.tick_ns < t.plan.entry_tick * S.tick_ns + 550000000000000000 = t.bound in
-          let entered : t.plan.entry_tick * S.tick_ns < 2 ^ 62 - 550000000000000000 = all-among (λ (q : PacketPlan). q.entry_tick * S.tick_ns < 2 ^ 62 - 550000000000000000) t.plan S.packets is.entries_fit t.among in
+          let entered : t.plan.entry_tick * S.tick_ns < 2 ^ 62 - 550000000000000000 = All-Among (λ (q : PacketPlan). q.entry_tick * S.tick_ns < 2 ^ 62 - 550000000000000000) t.plan S.packets is.entries_fit t.among in
           omega (arith, late, entered)
 
   pub outputs_fit : OutputsFit S
   outputs_fit p tick a left = go (route_of S p.number) refl
     where
       entered : (q : PacketPlan) → Among q S.packets → S.base_ns + q.entry_tick * S.tick_ns < 3600005000000000000
-      entered q b = all-among (λ (r : PacketPlan). S.base_ns + r.entry_tick * S.tick_ns < 3600005000000000000) q S.packets is.times_fit b
+      entered q b = All-Among (λ (r : PacketPlan). S.base_ns + r.entry_tick * S.tick_ns < 3600005000000000000) q S.packets is.times_fit b
 
       go : (route : List ℕ) → route_of S p.number ≡ route → output_time S.base_ns S.tick_ns tick < 2 ^ 32 * 10 ^ 9
       go [] e =

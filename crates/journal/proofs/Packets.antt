@@ -6,7 +6,7 @@ use Rattle.mn_base.specs.Among.{Among}
 use Rattle.journal.specs.declared.setup.PacketPlan.{PacketPlan}
 use Rattle.journal.specs.SetupView.{SetupView, packet_of, route_of}
 use Rattle.journal.specs.IsSetup.{IsSetup}
-use Rattle.journal.proofs.Members.{among-find, all-among}
+use Rattle.mn_base.proofs.Members.{Among-find, All-Among}
 use Rattle.journal.proofs.Numbers.{found}
 
 -- what stands at a place is a member
@@ -27,8 +27,8 @@ pub record HasRoute (S : SetupView) (p : PacketPlan) (route : List ℕ) : Type 0
 
 pub packet-route : (S : SetupView) → IsSetup S → (p : PacketPlan) → packet_of S p.number ≡ Some p → HasRoute S p (slice_index_or S.routes p.route [])
 packet-route S is p known =
-    let member = among-find (λ (q : PacketPlan). q.number == p.number) p S.packets known in
-    let within : p.route < length S.routes = all-among (λ (q : PacketPlan). q.route < length S.routes) p S.packets is.packet_routes member.0 in
+    let member = Among-find (λ (q : PacketPlan). q.number == p.number) p S.packets known in
+    let within : p.route < length S.routes = All-Among (λ (q : PacketPlan). q.route < length S.routes) p S.packets is.packet_routes member.0 in
     record {
       is = sym (ap (λ (o : Option PacketPlan). option_map_or (λ q. slice_index_or S.routes q.route []) o []) known);
       within = within;
@@ -38,8 +38,8 @@ packet-route S is p known =
 
 pub packet-short : (S : SetupView) → IsSetup S → (p : PacketPlan) → packet_of S p.number ≡ Some p → p.len ≤ 262144
 packet-short S is p known =
-    let member = among-find (λ (q : PacketPlan). q.number == p.number) p S.packets known in
-    all-among (λ (q : PacketPlan). q.len ≤ 262144) p S.packets is.lens_most member.0
+    let member = Among-find (λ (q : PacketPlan). q.number == p.number) p S.packets known in
+    All-Among (λ (q : PacketPlan). q.len ≤ 262144) p S.packets is.lens_most member.0
 
 -- the same, read out of a list whose elements hold the routes
 pub route-read : {X : Type 0} (items : X → List ℕ) (xs : List X) (S : SetupView) → IsSetup S → (p : PacketPlan) → packet_of S p.number ≡ Some p

@@ -11,7 +11,7 @@ use Rattle.journal.specs.declared.due.Waiting.{Waiting}
 use Rattle.journal.specs.Dues.{Before}
 use Rattle.journal.specs.Entries.{waiting_of}
 use Rattle.journal.specs.Queue.{due_at, HasNone}
-use Rattle.journal.proofs.Members.{among-map, among_from-map, all-among}
+use Rattle.mn_base.proofs.Members.{Among-map, Among-from-map, All-Among}
 
 -- how keys are compared: by tick, then by packet
 abbrev pub key_cmp : (ℕ × ℕ) → (ℕ × ℕ) → Ordering
@@ -74,6 +74,6 @@ among-insert k v (e ∷ es) other none = go (key_cmp k e.0) refl (among-insert k
 pub first-before : (first : (ℕ × ℕ) × (ℕ × ℕ)) (es : List ((ℕ × ℕ) × (ℕ × ℕ))) → All (λ k. key_cmp first.0 k ≡ Less) (map (λ e. e.0) es)
     → (other : Waiting) → Among other (map waiting_of es) → Before (due_at (waiting_of first)) (due_at other)
 first-before first es above other a =
-    let e = among_from-map waiting_of other es a in
-    let less : key_cmp first.0 e.0.0 ≡ Less = all-among (λ k. key_cmp first.0 k ≡ Less) e.0.0 (map (λ d. d.0) es) above (among-map (λ d. d.0) e.0 es e.1) in
+    let e = Among-from-map waiting_of other es a in
+    let less : key_cmp first.0 e.0.0 ≡ Less = All-Among (λ k. key_cmp first.0 k ≡ Less) e.0.0 (map (λ d. d.0) es) above (Among-map (λ d. d.0) e.0 es e.1) in
     subst (λ (w : Waiting). Before (due_at (waiting_of first)) (due_at w)) e.2 (before_from-less first e.0 less)

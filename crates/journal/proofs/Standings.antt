@@ -17,7 +17,7 @@ use Rattle.journal.specs.Dues.{Due, pipe_of}
 use Rattle.journal.specs.IsJournal.{arrival, arrivals, step_of, visit_of}
 use Rattle.journal.specs.Queue.{due_at}
 use Rattle.journal.specs.Standing.{IsPipe, ArePipes}
-use Rattle.journal.proofs.Members.{among_from-map, among_from-filter}
+use Rattle.mn_base.proofs.Members.{Among-from-map, Among-from-filter}
 
 -- one visit more reaches its own pipe, and no other
 pub arrivals-push_same : (S : SetupView) (pipe : ℕ) (J : List Visit) (v : Visit) → v.pipe ≡ pipe → arrivals S pipe (J ++ v ∷ []) ≡ arrivals S pipe J ++ arrival S v ∷ []
@@ -51,8 +51,8 @@ pipe-order S J pipe tick m is by =
   where
     each : (a : Arrival) → Among a (arrivals S pipe J) → a.tick ≤ tick
     each a m =
-        let u = among_from-map (arrival S) a (filter (λ (w : Visit). w.pipe == pipe) J) m in
-        let early : u.0.tick ≤ tick = by u.0 (among_from-filter (λ (w : Visit). w.pipe == pipe) u.0 J u.1).0 in
+        let u = Among-from-map (arrival S) a (filter (λ (w : Visit). w.pipe == pipe) J) m in
+        let early : u.0.tick ≤ tick = by u.0 (Among-from-filter (λ (w : Visit). w.pipe == pipe) u.0 J u.1).0 in
         let same : u.0.tick ≡ a.tick = ap (λ (b : Arrival). b.tick) u.2 in
         omega (arith, early, same)
 

@@ -15,7 +15,7 @@ use Rattle.journal.specs.SetupView.{SetupView, packet_of, route_of, len_of, para
 use Rattle.journal.specs.IsSetup.{IsSetup, longest_stay, longest_way}
 use Rattle.journal.specs.Dues.{Due, due_of, pipe_of, dues}
 use Rattle.journal.specs.IsJournal.{Rises, arrival, arrivals, is_lost, step_of}
-use Rattle.journal.proofs.Members.{SplitAt, split_at, among-find, among_from-map, among_from-filter, all-among}
+use Rattle.mn_base.proofs.Members.{SplitAt, split_at, Among-find, Among-from-map, Among-from-filter, All-Among}
 use Rattle.journal.proofs.Order.{before-tick, rises-across}
 use Rattle.journal.proofs.Delays.{Origin, origin, IsNext}
 use Rattle.journal.proofs.Growing.{IsGrowing, tick-pos}
@@ -29,7 +29,7 @@ len_of-short S is number = go (packet_of S number) refl
     go : (o : Option PacketPlan) → packet_of S number ≡ o → option_map_or (λ p. p.len) o 0 ≤ 262144
     go None found = omega arith
     go (Some p) found =
-        all-among (λ (q : PacketPlan). q.len ≤ 262144) p S.packets is.lens_most (among-find (λ (q : PacketPlan). q.number == number) p S.packets found).0
+        All-Among (λ (q : PacketPlan). q.len ≤ 262144) p S.packets is.lens_most (Among-find (λ (q : PacketPlan). q.number == number) p S.packets found).0
 
 -- the pipe at a hop keeps the packet for its part of the rest of the way
 pub longest_way-drop : (S : SetupView) (route : List ℕ) (hop : ℕ) → hop < length route
@@ -65,8 +65,8 @@ module _ (S : SetupView) (is : IsSetup S) (J : List Visit) (g : IsGrowing S J) w
 
       usual : (a : Arrival) → Among a (arrivals S pipe s.front) → IsUsual (params_of S pipe) S.tick_ns (v.tick * S.tick_ns) (transmission (params_of S pipe 0).bps 262144) a
       usual a m =
-          let u = among_from-map (arrival S) a (filter (λ (w : Visit). w.pipe == pipe) s.front) m in
-          let early = (among_from-filter (λ (w : Visit). w.pipe == pipe) u.0 s.front u.1).0 in
+          let u = Among-from-map (arrival S) a (filter (λ (w : Visit). w.pipe == pipe) s.front) m in
+          let early = (Among-from-filter (λ (w : Visit). w.pipe == pipe) u.0 s.front u.1).0 in
           let before = before-tick (due_of u.0) (due_of v) (rises-across s.front (v ∷ s.rest) u.0 v (subst Rises s.is g.rises) early (inl refl)) in
           let one : IsUsual (params_of S pipe) S.tick_ns (v.tick * S.tick_ns) (transmission (params_of S pipe 0).bps 262144) (arrival S u.0) = record {
             by = mul-le-mul_right S.tick_ns before;
@@ -124,7 +124,7 @@ module _ (S : SetupView) (is : IsSetup S) (J : List Visit) (g : IsGrowing S J) w
   due_fits x a =
       let w = on_way x a in
       let p : PacketPlan = w.plan in
-      let entered : p.entry_tick * S.tick_ns < 2 ^ 62 - 550000000000000000 = all-among (λ (q : PacketPlan). q.entry_tick * S.tick_ns < 2 ^ 62 - 550000000000000000) p S.packets is.entries_fit w.among in
+      let entered : p.entry_tick * S.tick_ns < 2 ^ 62 - 550000000000000000 = All-Among (λ (q : PacketPlan). q.entry_tick * S.tick_ns < 2 ^ 62 - 550000000000000000) p S.packets is.entries_fit w.among in
       let r = packet-route S is p (packet-known S is p w.among) in
       let kept : longest_way S (slice_index_or S.routes p.route []) < 550000000000000000 = is.delays_fit p.route [] r.within in
       let route : longest_way S (slice_index_or S.routes p.route []) ≡ longest_way S (route_of S x.packet) = ap (longest_way S) (r.is ∙ ap (route_of S) w.number) in

@@ -15,7 +15,7 @@ use Rattle.journal.specs.Dues.{Due, Before, due_of, entry, hop_after, next_hop, 
 use Rattle.journal.specs.IsJournal.{IsJournal, visit_of}
 use Rattle.journal.specs.Journal.{is_done}
 use Rattle.journal.specs.Queue.{due_at, HasNone, IsPlaced, IsFirst, HaveEntered, IsQueue, AddsNext}
-use Rattle.journal.proofs.Members.{place_of, among-left, among-push, among-push_cases, among-map, among_from-map}
+use Rattle.mn_base.proofs.Members.{place_of, Among-append-left, Among-last, Among-push, Among-map, Among-from-map}
 use Rattle.journal.proofs.Order.{before-irreflexive, before-asymmetric, before-tick}
 use Rattle.journal.proofs.Packets.{among-get}
 use Rattle.journal.proofs.Delays.{IsEntry, IsNext, Origin, origin, entry_parts, next_parts, next_hop-is, due_from-entry, due_from-next}
@@ -74,7 +74,7 @@ entered-some S n old new p w h here first is_placed adds = record {
 }
   where
     kept : (x : Due) → Among x (map due_at old) → Among x (map due_at new)
-    kept x a = let s = among_from-map due_at x old a in subst (λ d. Among d (map due_at new)) s.2 (among-map due_at s.0 new ((adds s.0).1 (inr s.1)))
+    kept x a = let s = Among-from-map due_at x old a in subst (λ d. Among d (map due_at new)) s.2 (Among-map due_at s.0 new ((adds s.0).1 (inr s.1)))
 
     go : (place : ℕ) (q : PacketPlan) (x : Due) → slice_get S.packets place ≡ Some q → entry S q ≡ Some x → (place < n) ⊎ (n ≤ place) → place < n + 1 → Among x (map due_at new)
     go place q x at e (inl before) below = kept x (h.all place q x before at e)
@@ -84,7 +84,7 @@ entered-some S n old new p w h here first is_placed adds = record {
         let is : q ≡ p = cc in
         let some : Some x ≡ Some (due_at w) = sym e ∙ ap (entry S) is ∙ sym first in
         let due : due_at w ≡ x = cc in
-        subst (λ d. Among d (map due_at new)) due (among-map due_at w new ((adds w).1 (inl refl)))
+        subst (λ d. Among d (map due_at new)) due (Among-map due_at w new ((adds w).1 (inl refl)))
 
 entry-packet : (S : SetupView) (p : PacketPlan) (x : Due) → Among p S.packets → entry S p ≡ Some x → x.packet ≡ p.number
 entry-packet S p x a e = ap (λ (d : Due). d.packet) (entry_parts S p x a e).is
@@ -138,7 +138,7 @@ adds-some S made step old new later follows is_placed adds = record {
       (λ e. inr (subst (IsPlaced S) e is_placed, sym follows ∙ ap (λ (u : Waiting). Some (due_at u)) e))
       (λ b. inl b) ((adds w).0 a);
   follows = λ x e. let some : Some (due_at later) ≡ Some x = follows ∙ e in let due : due_at later ≡ x = cc in
-      subst (λ d. Among d (map due_at new)) due (among-map due_at later new ((adds later).1 (inl refl)));
+      subst (λ d. Among d (map due_at new)) due (Among-map due_at later new ((adds later).1 (inl refl)));
 }
 
 -- a list with one visit more has done what it had, and that
@@ -152,7 +152,7 @@ is_done-push J v y waits other = go (is_done (J ++ v ∷ []) y) refl
         ⊎_elim
         (λ old. absurd (true≢false (sym (is_done-true J d.visit y old d.packet d.hop) ∙ waits)))
         (λ new. absurd (other (ap (λ (u : Visit). u.packet) new ∙ d.packet) (ap (λ (u : Visit). u.hop) new ∙ d.hop)))
-        (among-push_cases d.visit J v d.among)
+        (Among-push d.visit J v d.among)
 
 -- what waits behind one visit more waited before it
 waited : (J : List Visit) (v : Visit) (y : Due) → is_done (J ++ v ∷ []) y ≡ false → is_done J y ≡ false
@@ -162,14 +162,14 @@ waited J v y waits = go (is_done J y) refl
     go false t = t
     go true t =
         let d = done_parts J y t in
-        absurd (true≢false (sym (is_done-true (J ++ v ∷ []) d.visit y (among-left d.visit J (v ∷ []) d.among) d.packet d.hop) ∙ waits))
+        absurd (true≢false (sym (is_done-true (J ++ v ∷ []) d.visit y (Among-append-left d.visit J (v ∷ []) d.among) d.packet d.hop) ∙ waits))
 
 dues-push : (S : SetupView) (J : List Visit) (v : Visit) (y : Due) → Among y (dues S J) → Among y (dues S (J ++ v ∷ []))
 dues-push S J v y a = go (origin S J y a)
   where
     go : Origin S J y → Among y (dues S (J ++ v ∷ []))
     go (inl m) = due_from-entry S (J ++ v ∷ []) m.0 y m.1
-    go (inr m) = let i = m.1 in due_from-next S (J ++ v ∷ []) m.0 y (record { among = among-left m.0 J (v ∷ []) i.among; exit = i.exit; passed = i.passed; is = i.is; within = i.within })
+    go (inr m) = let i = m.1 in due_from-next S (J ++ v ∷ []) m.0 y (record { among = Among-append-left m.0 J (v ∷ []) i.among; exit = i.exit; passed = i.passed; is = i.is; within = i.within })
 
 -- a queue, its first visit, and what stands behind that
 module _ (S : SetupView) (is : IsSetup S) (J : List Visit) (g : IsGrowing S J) (next : Waiting) (rest : List Waiting)
@@ -190,7 +190,7 @@ module _ (S : SetupView) (is : IsSetup S) (J : List Visit) (g : IsGrowing S J) (
       go : (y : Due) → Before y (due_at next) → Among y (map due_at (next ∷ rest)) → ⊥
       go y before (inl e) = before-irreflexive (due_at next) (subst (λ (d : Due). Before d (due_at next)) (sym e) before)
       go y before (inr later) =
-          let s = among_from-map due_at y rest later in
+          let s = Among-from-map due_at y rest later in
           before-asymmetric (due_at next) y (subst (λ (d : Due). Before (due_at next) d) s.2 (first s.0 s.1)) before
 
   other-packet : (w : Waiting) → Among w rest → w.packet ≡ next.packet → ⊥
@@ -223,7 +223,7 @@ module _ (S : SetupView) (is : IsSetup S) (J : List Visit) (g : IsGrowing S J) (
     where
       next_is : (y : Due) → hop_after S next.packet next.hop step ≡ Some y → IsNext S (J ++ made ∷ []) made y
       next_is y e =
-          next_parts S (J ++ made ∷ []) made y (among-push J made) (ap (hop_after S next.packet next.hop) (sym step_is) ∙ e)
+          next_parts S (J ++ made ∷ []) made y (Among-last made J) (ap (hop_after S next.packet next.hop) (sym step_is) ∙ e)
 
       fresh_due : (w : Waiting) → hop_after S next.packet next.hop step ≡ Some (due_at w) → Among (due_at w) (dues S (J ++ made ∷ []))
       fresh_due w e = due_from-next S (J ++ made ∷ []) made (due_at w) (next_is (due_at w) e)
@@ -256,14 +256,14 @@ module _ (S : SetupView) (is : IsSetup S) (J : List Visit) (g : IsGrowing S J) (
         where
           place : Among y (map due_at (next ∷ rest)) → Among y (map due_at new)
           place (inl e) =
-              absurd (true≢false (sym (is_done-true (J ++ made ∷ []) made y (among-push J made) (ap (λ (d : Due). d.packet) e) (ap (λ (d : Due). d.hop) e)) ∙ w))
+              absurd (true≢false (sym (is_done-true (J ++ made ∷ []) made y (Among-last made J) (ap (λ (d : Due). d.packet) e) (ap (λ (d : Due). d.hop) e)) ∙ w))
           place (inr later) =
-              let s = among_from-map due_at y rest later in
-              subst (λ (d : Due). Among d (map due_at new)) s.2 (among-map due_at s.0 new (adds.keeps s.0 s.1))
+              let s = Among-from-map due_at y rest later in
+              subst (λ (d : Due). Among d (map due_at new)) s.2 (Among-map due_at s.0 new (adds.keeps s.0 s.1))
 
       all : (y : Due) → Among y (dues S (J ++ made ∷ [])) → is_done (J ++ made ∷ []) y ≡ false → Origin S (J ++ made ∷ []) y → Among y (map due_at new)
       all y a w (inl m) = old y (due_from-entry S J m.0 y m.1) w
-      all y a w (inr m) = ⊎_elim before now (among-push_cases m.0 J made m.1.among)
+      all y a w (inr m) = ⊎_elim before now (Among-push m.0 J made m.1.among)
         where
           before : Among m.0 J → Among y (map due_at new)
           before h = let i = m.1 in old y (due_from-next S J m.0 y (record { among = h; exit = i.exit; passed = i.passed; is = i.is; within = i.within })) w

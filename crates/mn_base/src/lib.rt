@@ -6,6 +6,7 @@
 mod bytes;
 mod causes;
 mod decimal;
+pub mod laws;
 pub mod limits;
 mod params;
 mod refusal;

@@ -14,7 +14,7 @@ pub struct PipeParams {
     pub latency_ticks: u64,
     /// Queue limit, in packets that wait or transmit.
     pub queue: u32,
-    /// A visit passes exactly where its 32-bit loss word is below this.
+    /// Of the 2^32 loss words, how many lose nothing: a visit is lost exactly where its word is at least this.
     pub keep: u64,
     pub ghost bandwidth: { (1000 ≤ bps) × (bps ≤ 10 ^ 12) },
     pub ghost latency: { latency_us ≤ 40950000000 },

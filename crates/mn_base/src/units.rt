@@ -28,7 +28,7 @@ pub fn ticks_of_us(us: u64, tick_ns: u64) -> u64
     (us * 1_000).div_ceil(tick_ns).max(1)
 }
 
-/// The keep of a loss of `ppm` parts in a million: a visit passes exactly where its 32-bit word is below it.
+/// The keep of a loss of `ppm` parts in a million: a visit isn't lost exactly where its 32-bit word is below it.
 ///
 /// `keep_of_ppm(1)` is 4,294,963,001.
 pub fn keep_of_ppm(ppm: u32) -> u64

@@ -1,9 +1,9 @@
 -- Calls on one role, one after the other.
-use Rattle.std.proofs.Common.{◌≡◌, ◌<◌, ◌≤◌, ℕ, List, [], ◌++◌, length, None, Some, Option, Ok, Err, Result, IfSome, refl, sym, ap, ◌∙◌, arith, append_assoc, append-nil, length-append}
-use Rattle.std.specs.Io.KnownBytes.{IsAtEnd, prepend_known, append_known}
+use Rattle.std.proofs.Common.{◌≡◌, ◌≤◌, ℕ, List, [], ◌++◌, None, Some, Option, Ok, Err, Result, refl, sym, ap, ◌∙◌, arith, append_assoc, append-nil}
+use Rattle.std.specs.Io.KnownBytes.{prepend_known, append_known}
 use Rattle.mn_edge.specs.declared.host.WriteFault.{WriteFault}
 use Rattle.mn_edge.specs.Part.{Part, Takes, Adds}
-use Rattle.mn_edge.specs.Whole.{AddsWhole, AddsFront, TakesAll, TakesMore}
+use Rattle.mn_edge.specs.Whole.{AddsWhole, AddsFront}
 
 -- what is put before known bytes in two steps is put there at once
 pub prepend_known-prepend_known : (xs ys : List ℕ) (known : Option (List ℕ)) → prepend_known xs (prepend_known ys known) ≡ prepend_known (xs ++ ys) known
@@ -73,29 +73,3 @@ AddsFront-append a b text more cut = record {
   split = ap (λ bytes. bytes ++ more) cut.split ∙ append_assoc cut.front cut.rest more;
   added = cut.added;
 }
-
--- known bytes that lost these at their front began with them
-pub known_front : (old new : Option (List ℕ)) (bytes : List ℕ) → old ≡ prepend_known bytes new
-    → IfSome old (λ text. (rest : List ℕ) × (new ≡ Some rest) × (text ≡ bytes ++ rest))
-known_front None new bytes taken = tt
-known_front (Some text) None bytes taken = absurd cc
-known_front (Some text) (Some rest) bytes taken = (rest, refl, cc)
-
--- what was taken to the end is all that was left
-pub TakesAll-left : (limit : ℕ) (bytes : List ℕ) (a b : Part) → TakesAll limit bytes a b → IfSome a.left (λ text. text ≡ bytes)
-TakesAll-left limit bytes a b all = all_known a.left b.left (known_front a.left b.left bytes all.taken.taken) all.ends where
-  all_known : (old new : Option (List ℕ)) → IfSome old (λ text. (rest : List ℕ) × (new ≡ Some rest) × (text ≡ bytes ++ rest)) → IsAtEnd new
-      → IfSome old (λ text. text ≡ bytes)
-  all_known None new front end = tt
-  all_known (Some text) None front end = absurd (let e = front.1 in cc)
-  all_known (Some text) (Some rest) front end =
-      let none : front.0 ≡ [] = (let e = front.1 in cc) in
-      front.2 ∙ ap (λ more. bytes ++ more) none ∙ append-nil bytes
-
--- more than limit bytes were left where more than limit were taken
-pub TakesMore-left : (limit : ℕ) (a b : Part) → TakesMore limit a b → IfSome a.left (λ text. limit < length text)
-TakesMore-left limit a b more = long_known a.left (known_front a.left b.left more.bytes more.taken.taken) where
-  long_known : (old : Option (List ℕ)) → IfSome old (λ text. (rest : List ℕ) × (b.left ≡ Some rest) × (text ≡ more.bytes ++ rest))
-      → IfSome old (λ text. limit < length text)
-  long_known None front = tt
-  long_known (Some text) front = let many = more.many in rw front.2 (omega (arith, length-append more.bytes front.0))

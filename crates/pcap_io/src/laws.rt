@@ -1,9 +1,6 @@
 //! Laws of the definitions. Each computes nothing: its clause is the law.
 
-ghost use Rattle.std.specs.Prelude.{◌≡◌};
 ghost use Rattle.pcap_io.specs.Laws.{ReadsBack, HasOneReading, HasNoFault, HasOneFault, IsAnswered};
-
-use mn_base::limits::{PACKET_BYTES_MAX, PACKETS_MAX, RECORD_SECONDS_MAX, TRACE_BYTES_MAX};
 
 /// What `write_pcap` writes of a trace within the limits reads to that trace, if no second is above 3,600,000,000.
 pub fn written_reads_back()
@@ -28,12 +25,4 @@ pub fn one_first_fault()
 /// Each text says a trace or has a first fault, so it says a trace exactly where it has no fault.
 pub fn reading_or_fault()
     ensures { IsAnswered }
-{}
-
-/// The limits that the definitions name, in numbers.
-pub fn limits_in_numbers()
-    ensures packets { PACKETS_MAX ≡ 1048576 }
-    ensures packet_bytes { PACKET_BYTES_MAX ≡ 262144 }
-    ensures record_seconds { RECORD_SECONDS_MAX ≡ 3600000000 }
-    ensures text_bytes { TRACE_BYTES_MAX ≡ 268435456 }
 {}

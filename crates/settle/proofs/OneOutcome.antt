@@ -3,7 +3,7 @@ use Rattle.std.proofs.Common.{◌≡◌, suc, ◌<◌, List, [], ◌∷◌, leng
 use Rattle.std.specs.List.Sorted.{IsPermutation}
 use Rattle.std.proofs.lemmas.List.Sorted.{IsPermutation-sym, IsPermutation-trans, Contains-permutation}
 use Rattle.mn_base.specs.Among.{Among}
-use Rattle.journal.proofs.Members.{among-place}
+use Rattle.mn_base.proofs.Members.{Among-place}
 use Rattle.settle.specs.declared.outcome.Leaving.{Leaving}
 use Rattle.settle.specs.IsOutcome.{leavings, LeavesBefore}
 use Rattle.settle.specs.Laws.{OutcomesAgree}
@@ -29,7 +29,7 @@ contains-from_among z (x ∷ xs) (inr among) =
 
 among-from_contains : {X : Type 0} (z : X) (xs : List X) → Contains xs z → Among z xs
 among-from_contains z xs contains =
-    subst (λ w. Among w xs) contains.2 (among-place xs contains.0 z contains.1)
+    subst (λ w. Among w xs) contains.2 (Among-place xs contains.0 z contains.1)
 
 -- the first is before each of the others
 before-rest : (x : Leaving) (xs : List Leaving) → AllPairs LeavesBefore (x ∷ xs) → (z : Leaving) → Among z xs → LeavesBefore x z
