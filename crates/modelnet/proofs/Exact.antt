@@ -15,11 +15,10 @@ use Rattle.modelnet.specs.declared.status.Status.{Status}
 use Rattle.modelnet.specs.declared.status.Status.TheVariants.{Done, NoMemory, BadWords, BadTrace, ReadFault, WriteFault, TooLarge}
 use Rattle.modelnet.specs.declared.words_fault.WordsFault.{WordsFault}
 use Rattle.modelnet.specs.Order.{ChainView}
-use Rattle.modelnet.specs.Roles.{WasRead, IsReading, ReadsTooMany}
-use Rattle.modelnet.specs.Run.{SaysRun}
+use Rattle.modelnet.specs.Roles.{WasRead, IsReading}
 use Rattle.modelnet.specs.Words.{ordered}
-use Rattle.modelnet.specs.Answers.{Host, trace_limit, HasRun, IsOrdered, ChainAnswers, Answers}
-use Rattle.modelnet.specs.Exact.{IsOrNoMemory, IsTold, FindsBadWords, FindsTooLarge, FindsBadTrace, IsComplete}
+use Rattle.modelnet.specs.Answers.{Host, trace_limit, HasRun, ChainAnswers, Answers}
+use Rattle.modelnet.specs.Exact.{IsOrNoMemory, FindsBadWords, FindsTooLarge, FindsBadTrace, IsComplete}
 
 -- the bytes that were read to the end are all that was told
 pub whole_text : (name bytes text : List ℕ) (old new : Part) → WasRead name bytes old new → old.left ≡ Some text → bytes ≡ text

@@ -1,5 +1,5 @@
 -- What stands after each answer of a command.
-use Rattle.std.specs.Prelude.{◌≡◌, ◌≢◌, ℕ, ◌≤◌, List, length, Result, Ok, Err}
+use Rattle.std.specs.Prelude.{◌≡◌, ◌≢◌, ℕ, ◌≤◌, List, length, Ok, Err}
 use Rattle.mn_base.specs.Causes.{Rose}
 use Rattle.mn_edge.specs.declared.role.Role.{Role}
 use Rattle.mn_edge.specs.declared.role.Role.TheVariants.{Trace, Out, Report}

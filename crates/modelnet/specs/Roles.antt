@@ -1,5 +1,5 @@
 -- What a command does to one role of a host: begin it under its name, read or write it whole, finish it.
-use Rattle.std.specs.Prelude.{◌≡◌, ◌⊎◌, ◌<◌, ◌≤◌, ℕ, true, false, List, ◌++◌, length, Option, Some, Result, Ok, Err}
+use Rattle.std.specs.Prelude.{◌≡◌, ◌⊎◌, ◌<◌, ◌≤◌, ℕ, true, false, List, ◌++◌, length, Some, Result, Ok, Err}
 use Rattle.std.specs.Io.KnownBytes.{prepend_known, append_known, IsAtEnd}
 use Rattle.mn_base.specs.Causes.{Rose}
 use Rattle.mn_edge.specs.declared.host.WriteFault.{WriteFault}
