@@ -2,11 +2,11 @@
 # Refuses each allocation in turn, 1, 2, 3 .., until a run needs no more: of `chain`, or of the tests of a crate.
 #
 # usage: bench/memory.sh                      `chain` on the stored trace and on 60 packets over 3 pipes; some seconds
-#        bench/memory.sh CRATE [FROM [TO]]    the tests of that crate, by `rt try`; half a minute or more for each
-#                                             allocation, since it builds the tests each time
+#        bench/memory.sh CRATE [LAST]         each test of that crate, up to its allocation LAST (1,000); some seconds to minutes
 #
-# `chain` is the built program (MODELNET names another than crates/modelnet/out/modelnet). A few lines of C in front of malloc and
-# realloc refuse it the Nth call, or that one and all after it. A refused run has to end in one of these ways:
+# `chain` is the built program (MODELNET names another than crates/modelnet/out/modelnet), and the tests are crates/CRATE/out/CRATE_tests,
+# which `rt test` leaves there. A few lines of C in front of malloc and realloc refuse the Nth call, or that one and all after it.
+# A refused run of `chain` has to end in one of these ways:
 #   status 1 and `modelnet: no memory`, or no line where the line finds no memory either; no output was begun
 #   status 6 or 7 and its line, where the host found no memory for a kept name; the outputs before that role are whole, and
 #   that role has a front of its text
@@ -69,35 +69,30 @@ sweep() {
     sort "$folder/ends" | uniq -c
 }
 
-# usage: tests CRATE FROM TO: prints each test that fails with no word of memory. Without TO it ends when twice no test failed.
+# usage: tests CRATE LAST: refuses each allocation of each test of a crate in turn, up to number LAST
 tests() {
-    local number=$2 last=$3 passed=0
-    cd "$here/crates/$1"
-    while [ -n "$last" ] && [ "$number" -le "$last" ] || [ -z "$last" ] && [ "$passed" -lt 2 ]; do
-        rt try --test --fail-alloc "$number" >"$folder/said" 2>&1 || true
-        echo "allocation $number: $(grep -E '^test result' "$folder/said" || echo 'no result')"
-        if grep -q '^test result' "$folder/said"; then
-            awk '
-                /^test .* [.][.][.] / { if (bad) printf "%s", block; bad = /FAILED/; block = $0 "\n"; next }
-                /^test result/ { if (bad) printf "%s", block; bad = 0 }
-                { block = block $0 "\n"; if (/memory|Memory|Alloc/) bad = 0 }
-            ' "$folder/said"
-        else
-            cat "$folder/said"
-        fi
-        passed=$((passed + 1))
-        grep -q '^test result: ok' "$folder/said" || passed=0
-        number=$((number + 1))
+    local tests=$here/crates/$1/out/$1_tests last=$2 count=0 test number status
+    : >"$folder/ends"
+    for test in $("$tests" --list | sed -n 's/: test$//p'); do
+        for number in $(seq 1 "$last"); do
+            status=0
+            { LD_PRELOAD=$folder/refuse.so REFUSE=$number "$tests" "$test" >"$folder/said" 2>&1 9>"$folder/refused"; } 2>/dev/null || status=$?
+            [ -s "$folder/refused" ] || break
+            count=$((count + 1))
+            if [ "$status" = 0 ]; then
+                echo "passed without it" >>"$folder/ends"
+            elif grep -qE 'NoMemory|AllocError|AllocFailed|out of memory|OutOfMemory' "$folder/said"; then
+                echo "failed for want of memory" >>"$folder/ends"
+            else
+                echo "failed by another answer" >>"$folder/ends"
+                echo "$1: $test: allocation $number: status $status: $(tr '\n' ' ' <"$folder/said")" >&2
+            fi
+        done
     done
+    echo "$1: $count allocations refused"
+    sort "$folder/ends" | uniq -c
 }
 
-if [ $# -gt 0 ]; then
-    tests "$1" "${2:-1}" "${3:-}"
-    exit 0
-fi
-
-binary=${MODELNET:-$here/crates/modelnet/out/modelnet}
-wrong=0
 cat >"$folder/refuse.c" <<'C'
 #include <stdlib.h>
 #include <unistd.h>
@@ -122,6 +117,14 @@ void *malloc(size_t size) { return refuses() ? NULL : __libc_malloc(size); }
 void *realloc(void *old, size_t size) { return refuses() ? NULL : __libc_realloc(old, size); }
 C
 cc -O1 -shared -fPIC -fno-builtin -o "$folder/refuse.so" "$folder/refuse.c"
+
+if [ $# -gt 0 ]; then
+    tests "$1" "${2:-1000}"
+    exit 0
+fi
+
+binary=${MODELNET:-$here/crates/modelnet/out/modelnet}
+wrong=0
 
 # 60 packets of 40 captured bytes, three at each tick.
 python3 - "$folder/in.pcap" <<'PY'

@@ -106,15 +106,12 @@ const BY_NETWORKX: &str = "graph [
 ]
 ";
 
-/// The fault of a text.
-fn fault_of(alloc: Global, text: &str) -> Option<GmlFault> {
+/// Why a text isn't read.
+fn refusal_of(alloc: Global, text: &str) -> Option<Refusal<GmlFault>> {
     if text.len() > TEXT_MAX {
         return None;
     }
-    match read_gml(alloc, text.as_bytes()) {
-        Err(Refusal::Fault(fault)) => Some(fault),
-        _ => None,
-    }
+    read_gml(alloc, text.as_bytes()).err()
 }
 
 fn plain(id: u64) -> Node {
@@ -162,7 +159,11 @@ fn faults_of_tokens_and_grammar(rt: HostRuntime) {
         ("# no graph\n", GmlFault::NoGraph),
         ("graph 1 Graph [ ]", GmlFault::NoGraph),
     ] {
-        assert_eq!(rt; fault_of(rt.alloc(), text), Some(fault), "of {text}");
+        assert_eq!(rt;
+            refusal_of(rt.alloc(), text),
+            Some(Refusal::Fault(fault)),
+            "of {text}"
+        );
     }
 }
 
@@ -203,7 +204,11 @@ fn faults_of_nodes(rt: HostRuntime) {
             GmlFault::Topo(TopoFault::DuplicateId(1)),
         ),
     ] {
-        assert_eq!(rt; fault_of(rt.alloc(), text), Some(fault), "of {text}");
+        assert_eq!(rt;
+            refusal_of(rt.alloc(), text),
+            Some(Refusal::Fault(fault)),
+            "of {text}"
+        );
     }
 }
 
@@ -239,7 +244,11 @@ fn faults_of_edges(rt: HostRuntime) {
             GmlFault::Topo(TopoFault::Range(0, Key::Bandwidth)),
         ),
     ] {
-        assert_eq!(rt; fault_of(rt.alloc(), text), Some(fault), "of {text}");
+        assert_eq!(rt;
+            refusal_of(rt.alloc(), text),
+            Some(Refusal::Fault(fault)),
+            "of {text}"
+        );
     }
 }
 
@@ -386,13 +395,13 @@ fn lists_nest_to_depth_32(rt: HostRuntime) -> Result<(), Fail> {
     let topology = read_gml(rt.alloc(), text.as_bytes())?;
     assert_eq!(rt; topology.nodes(), [].as_slice());
     assert_eq!(rt;
-        fault_of(rt.alloc(), &deeper),
-        Some(GmlFault::Lex { place: 138 })
+        refusal_of(rt.alloc(), &deeper),
+        Some(Refusal::Fault(GmlFault::Lex { place: 138 }))
     );
     deeper.pop();
     assert_eq!(rt;
-        fault_of(rt.alloc(), &deeper),
-        Some(GmlFault::TooDeep { place: 134 })
+        refusal_of(rt.alloc(), &deeper),
+        Some(Refusal::Fault(GmlFault::TooDeep { place: 134 }))
     );
     Ok(())
 }
@@ -406,7 +415,7 @@ fn one_edge_node_too_many(rt: HostRuntime) -> Result<(), Fail> {
     }
     text.push_str("]")?;
     let fault = GmlFault::Topo(TopoFault::TooMany(Many::EdgeNodes));
-    assert_eq!(rt; fault_of(rt.alloc(), &text), Some(fault));
+    assert_eq!(rt; refusal_of(rt.alloc(), &text), Some(Refusal::Fault(fault)));
     Ok(())
 }
 
@@ -420,7 +429,11 @@ fn largest_texts(rt: HostRuntime) -> Result<(), Fail> {
         ("\"x\"\"", GmlFault::Grammar { place: 0 }),
     ] {
         let text = piece.repeat(rt.alloc(), TEXT_MAX / piece.len())?;
-        assert_eq!(rt; fault_of(rt.alloc(), &text), Some(fault), "of {piece}");
+        assert_eq!(rt;
+            refusal_of(rt.alloc(), &text),
+            Some(Refusal::Fault(fault)),
+            "of {piece}"
+        );
     }
     Ok(())
 }
