@@ -44,7 +44,7 @@ impl DueVisits {
         }
     }
 
-    // Takes the first out.
+    /// Takes the first out.
     pub(crate) fn pop(&mut self) -> Option<Waiting>
         ensures removal { MatchOption result (self.old ≡ []) (λ next. self.old ≡ next ∷ self.new) }
         ensures first { IfSome result (λ next. (other : Waiting) → Among other self.new → Before (due_at next) (due_at other)) }
@@ -58,7 +58,7 @@ impl DueVisits {
         })
     }
 
-    // Puts in a visit of a packet of which none waits.
+    /// Puts in a visit of a packet of which none waits.
     pub(crate) fn add(&mut self, next: Waiting) -> Result<(), NoMemory>
         requires { HasNone self.old next.packet }
         ensures { OnOk result ((other : Waiting) → Among other self.new ↔ ((next ≡ other) ⊎ Among other self.old)) }

@@ -39,7 +39,7 @@ pub fn journal(alloc: Global, setup: &Setup) -> Result<Vec<Visit>, NoMemory>
     Ok(visits)
 }
 
-// The pipes before any visit.
+/// The pipes before any visit.
 fn idle_pipes(alloc: Global, setup: &Setup) -> Result<Vec<Pipe>, NoMemory>
     ensures { IfOk result (λ pipes. ArePipes setup.now [] pipes.items) }
 {
@@ -58,7 +58,7 @@ fn idle_pipe(alloc: Global, setup: &Setup, number: usize) -> Pipe
     Pipe::new(alloc, parts.pipes[number], parts.tick_ns)
 }
 
-// The first visit of each packet that has a route.
+/// The first visit of each packet that has a route.
 fn first_dues(alloc: Global, setup: &Setup) -> Result<DueVisits, NoMemory>
     ensures { IfOk result (λ queue. IsQueue setup.now [] queue) }
 {
@@ -69,7 +69,7 @@ fn first_dues(alloc: Global, setup: &Setup) -> Result<DueVisits, NoMemory>
     Ok(due)
 }
 
-// Puts in the first visit of the packet at this place, if it has a route.
+/// Puts in the first visit of the packet at this place, if it has a route.
 fn enter(setup: &Setup, due: &mut DueVisits, place: usize) -> Result<(), NoMemory>
     requires setup { IsSetup setup.now }
     requires within { place < length setup.now.packets }
@@ -82,7 +82,7 @@ fn enter(setup: &Setup, due: &mut DueVisits, place: usize) -> Result<(), NoMemor
     }
 }
 
-// The first visit of the packet at this place.
+/// The first visit of the packet at this place.
 fn first_visit(setup: &Setup, place: usize) -> Option<Waiting>
     requires { place < length setup.now.packets }
     ensures due { (p : PacketPlan) → slice_get setup.now.packets place ≡ Some p
@@ -119,7 +119,7 @@ fn route_of(setup: &Setup, packet: PacketPlan) -> &[u32]
     &setup.parts().routes[packet.route as usize]
 }
 
-// Makes the visit that is due next, and says what comes of it.
+/// Makes the visit that is due next, and says what comes of it.
 fn decide(
     setup: &Setup,
     pipes: &mut Vec<Pipe>,
@@ -153,7 +153,7 @@ fn decide(
     Ok(step)
 }
 
-// The pipe to which the visit goes.
+/// The pipe to which the visit goes.
 fn pipe_number(setup: &Setup, next: Waiting) -> u32
     requires { IsPlaced setup.now next }
     ensures pipe { result ≡ pipe_of setup.now (due_at next) }
@@ -163,7 +163,7 @@ fn pipe_number(setup: &Setup, next: Waiting) -> u32
     route_of(setup, packet)[next.hop as usize]
 }
 
-// The length of the visit's packet, in bytes.
+/// The length of the visit's packet, in bytes.
 fn packet_len(setup: &Setup, next: Waiting) -> u32
     requires { IsPlaced setup.now next }
     ensures len { result ≡ len_of setup.now next.packet }
@@ -172,7 +172,7 @@ fn packet_len(setup: &Setup, next: Waiting) -> u32
     packet_at(setup, next.place).len
 }
 
-// Whether the visit's loss word is at least the pipe's keep.
+/// Whether the visit's loss word is at least the pipe's keep.
 fn is_lost(setup: &Setup, words: &mut Words, number: u32, next: Waiting) -> bool
     requires seed { words.old ≡ setup.now.seed }
     requires named { number < length setup.now.pipes }
@@ -183,7 +183,7 @@ fn is_lost(setup: &Setup, words: &mut Words, number: u32, next: Waiting) -> bool
     keep <= u64::from(words.word(number, next.packet))
 }
 
-// Puts in the visit that follows, if the packet goes on.
+/// Puts in the visit that follows, if the packet goes on.
 fn follow_up(setup: &Setup, due: &mut DueVisits, next: Waiting, step: Step) -> Result<(), NoMemory>
     requires none { HasNone due.old next.packet }
     requires placed { IsPlaced setup.now next }
@@ -195,7 +195,7 @@ fn follow_up(setup: &Setup, due: &mut DueVisits, next: Waiting, step: Step) -> R
     }
 }
 
-// The visit that follows this one on its packet's way.
+/// The visit that follows this one on its packet's way.
 fn following(setup: &Setup, next: Waiting, step: Step) -> Option<Waiting>
     requires { IsPlaced setup.now next }
     ensures due { option_map due_at result ≡ hop_after setup.now next.packet next.hop step }

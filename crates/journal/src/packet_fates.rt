@@ -27,7 +27,7 @@ pub fn fates(alloc: Global, setup: &Setup) -> Result<Vec<Fate>, NoMemory>
     Ok(fates)
 }
 
-// By packet number, what its last visit makes of it.
+/// By packet number, what its last visit makes of it.
 fn last_fates(alloc: Global, visits: &[Visit]) -> Result<BTreeMap<u32, Fate>, NoMemory>
     ensures { IfOk result (λ ends. (number : ℕ) →
         tree.get nat_cmp ends number ≡ option_map fate_at (last_visit visits.now number)) }
@@ -57,7 +57,7 @@ fn visit_fate(visit: &Visit) -> Fate
     }
 }
 
-// A packet that visits no pipe leaves when it enters.
+/// A packet that visits no pipe leaves when it enters.
 fn fate(ends: &BTreeMap<u32, Fate>, packet: PacketPlan) -> Fate
     ensures { result ≡ unwrap_or (tree.get nat_cmp ends.now packet.number) (Left packet.entry_tick) }
 {

@@ -4,7 +4,7 @@ use pipe::Step;
 use std::process::Abort;
 use std::test::Fail;
 
-// 1,000 bytes take 10 ticks of 100,000 ns, and the latency is 50 ticks.
+/// 1,000 bytes take 10 ticks of 100,000 ns, and the latency is 50 ticks.
 const USUAL: PipeParams = PipeParams {
     bps: 8_000_000,
     latency_us: 5_000,
@@ -13,7 +13,7 @@ const USUAL: PipeParams = PipeParams {
     keep: 4_294_967_296,
 };
 
-// The only packets that wait or transmit: one.
+/// The only packets that wait or transmit: one.
 const NARROW: PipeParams = PipeParams {
     bps: 8_000_000,
     latency_us: 5_000,
@@ -240,8 +240,8 @@ fn the_second_pipe_of_a_route_drops_at_the_exit_of_the_first(rt: HostRuntime) ->
     Ok(())
 }
 
-// The visits and fates were worked out by a program of its own in Python, which does what the rule says and no more: it appends
-// the least visit that is due, again and again, each time with all finishes of the pipe computed anew.
+/// The visits and fates were worked out by a program of its own in Python, which does what the rule says and no more: it appends
+/// the least visit that is due, again and again, each time with all finishes of the pipe computed anew.
 #[test]
 fn a_journal_of_many_routes_is_that_of_a_plain_program(rt: HostRuntime) -> Result<(), Fail> {
     let setup = Setup::new(SetupParts {

@@ -1,8 +1,8 @@
 use super::Words;
 
-// (seed, pipe, packet, word), worked out by a program of its own in Python: the block function of
-// RFC 8439 with 8 rounds, a 64-bit counter and a 64-bit stream, which gives the published first
-// block of ChaCha8 under a zero key (3e 00 ef 2f 89 5f 40 d6 ..).
+/// (seed, pipe, packet, word), worked out by a program of its own in Python: the block function of
+/// RFC 8439 with 8 rounds, a 64-bit counter and a 64-bit stream, which gives the published first
+/// block of ChaCha8 under a zero key (3e 00 ef 2f 89 5f 40 d6 ..).
 const VECTORS: [(u64, u32, u32, u32); 6] = [
     (0, 0, 0, 0x2fef_003e),
     (0, 1, 0, 0xb34b_8f2b),

@@ -22,7 +22,7 @@ pub struct Fail {
     pub k: u32,
 }
 
-// Whether the list names this call.
+/// Whether the list names this call.
 pub fn is_named(fails: &[Fail], role: Role, op: Op, k: u64) -> bool
     ensures { IsTrue result ↔ IsNamed fails.now role op k }
 {

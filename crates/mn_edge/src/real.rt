@@ -26,7 +26,7 @@ pub struct RealHost<R> {
     slots: [Slot; Role::COUNT],
 }
 
-// What stands behind a role.
+/// What stands behind a role.
 #[derive(Drop)]
 enum Opened {
     Nothing,
@@ -43,7 +43,7 @@ impl<R> Model for RealHost<R> {
     ghost view = { λ h. h.slots };
 }
 
-// The file of a role: an input to be read, an output made and emptied.
+/// The file of a role: an input to be read, an output made and emptied.
 fn open<R: Files<File = File>>(rt: &R, role: Role, name: &str) -> io::Result<Opened> {
     if role == Role::Screen {
         Ok(Opened::Screen)

@@ -10,7 +10,7 @@ use std::marker::Model;
 /// The longest name that a host in memory takes, in bytes.
 pub const NAME_MAX: usize = 4_096;
 
-// The bytes to read with how many were taken, the bytes that were written with how many fit, the name, and the counts.
+/// The bytes to read with how many were taken, the bytes that were written with how many fit, the name, and the counts.
 #[derive(Drop)]
 pub struct Stream {
     input: Vec<u8>,
@@ -48,7 +48,7 @@ impl Model for Stream {
 }
 
 impl Stream {
-    // All the memory that the role will need.
+    /// All the memory that the role will need.
     pub fn new(alloc: Global, input: &[u8], room: usize) -> Result<Stream, NoMemory>
         ensures fresh { IfOk result (λ stream. stream ≡ fresh input.now room) }
     {

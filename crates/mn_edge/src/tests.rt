@@ -9,7 +9,7 @@ use std::fs;
 use std::process::Abort;
 use std::test::Fail as Failure;
 
-// Begins a role of a host that is new.
+/// Begins a role of a host that is new.
 fn begun<H: Host>(rt: &impl Abort, host: &mut H, role: Role, name: &str)
     requires { (each : Role) → (H.part host.old each).active ≡ false }
     ensures { (H.part host.new role).active ≡ true }
@@ -17,7 +17,7 @@ fn begun<H: Host>(rt: &impl Abort, host: &mut H, role: Role, name: &str)
     assert_eq!(rt; host.begin(role, name), Ok(()));
 }
 
-// Begins a role of a host that is new, under a name that it refuses.
+/// Begins a role of a host that is new, under a name that it refuses.
 fn refused<H: Host>(rt: &impl Abort, host: &mut H, role: Role, name: &str)
     requires { (each : Role) → (H.part host.old each).active ≡ false }
 {
@@ -37,7 +37,7 @@ fn written<H: Host>(rt: &impl Abort, host: &mut H, role: Role, text: &[u8])
     assert_eq!(rt; write_all(host, role, text), Ok(()));
 }
 
-// What a whole read answers on a trace of these bytes, 3 at a time.
+/// What a whole read answers on a trace of these bytes, 3 at a time.
 fn read_trace(
     rt: &(impl Abort + AllocGlobal),
     trace: &[u8],
@@ -81,7 +81,7 @@ fn a_whole_read_ends_at_the_call_that_is_named(rt: HostRuntime) {
     assert!(rt; read_trace(&rt, b"abcd", &[other], 4).is_ok());
 }
 
-// What a whole write to Out answers, 8 bytes at a time, and what Out then holds.
+/// What a whole write to Out answers, 8 bytes at a time, and what Out then holds.
 fn write_out(
     rt: &(impl Abort + AllocGlobal),
     fails: &[Fail],

@@ -18,7 +18,7 @@ pub enum ReadEnd {
     TooLarge,
 }
 
-// How many bytes one read asks for.
+/// How many bytes one read asks for.
 const PIECE: usize = 4096;
 
 /// Reads an active role to its end. More than `limit` bytes are refused.

@@ -1,5 +1,6 @@
 -- What a command line asks for.
-use Rattle.std.specs.Prelude.{ℕ, ◌^◌, ◌≤◌, List, length, All}
+use Rattle.std.specs.Prelude.{ℕ, ◌≤◌, List, length, All}
+use Rattle.mn_base.specs.Ranges.{AreInRange}
 use Rattle.modelnet.specs.declared.order.PipeSpec.{PipeSpec}
 
 -- what contracts see of a `ChainOrder`
@@ -12,13 +13,8 @@ pub record ChainView : Type 0 where
   pub pipes : List PipeSpec
 
 -- a pipe within the limits of a link
-pub record IsPipeSpec (pipe : PipeSpec) : Type 0 where
-  pub bps_least : 1000 ≤ pipe.bps
-  pub bps_most : pipe.bps ≤ 10 ^ 12
-  pub latency : pipe.latency_us ≤ 10000000
-  pub queue_least : 1 ≤ pipe.queue
-  pub queue_most : pipe.queue ≤ 1000
-  pub loss : pipe.ppm ≤ 1000000
+abbrev pub IsPipeSpec : PipeSpec → Type 0
+IsPipeSpec pipe = AreInRange pipe.bps pipe.latency_us pipe.queue pipe.ppm
 
 -- an order within the limits of `chain`
 pub record IsOrder (order : ChainView) : Type 0 where

@@ -42,7 +42,7 @@ pub fn pipe_of(word: &str) -> Option<PipeSpec>
     })
 }
 
-// The four fields of a PIPE, as texts.
+/// The four fields of a PIPE, as texts.
 #[derive(Drop)]
 struct Fields<'w> {
     bps: &'w str,
@@ -70,7 +70,7 @@ fn fields_of(word: &str) -> Option<Fields<'_>>
     })
 }
 
-// The text before the first colon, and what stands behind it.
+/// The text before the first colon, and what stands behind it.
 #[tactic(auto, using(crate::proofs::PipeFields::cuts))]
 fn first_field(text: &str) -> Option<(&str, &str)>
     ensures { MatchOption result (fields_of text.now ≡ text.now ∷ [])

@@ -44,7 +44,7 @@ pub fn read_words(alloc: Global, words: &[&str]) -> Result<Order, Refusal<WordsF
     valued(alloc, options)
 }
 
-// The words behind `chain`.
+/// The words behind `chain`.
 #[derive(Drop)]
 struct ChainWords<'a, 'w> {
     trace: &'w str,

@@ -102,7 +102,7 @@ impl Pipe {
     }
 }
 
-// Takes the finishes at or below `now` off the front.
+/// Takes the finishes at or below `now` off the front.
 fn drop_finished(times: &mut VecDeque<u64>, now: u64)
     requires { IsNonDecreasing times.old.items }
     ensures items { times.new.items ≡ above now times.old.items }
@@ -122,7 +122,7 @@ mod tests {
     use super::*;
     use std::test::Fail;
 
-    // 8,000,000 bit/s, on which 1,000 bytes take 10 ticks of 100,000 ns.
+    /// 8,000,000 bit/s, on which 1,000 bytes take 10 ticks of 100,000 ns.
     fn pipe(alloc: Global, latency_us: u64, queue: u32) -> Pipe
         requires latency { latency_us ≤ 10000000 }
         requires queue_least { 1 ≤ queue }

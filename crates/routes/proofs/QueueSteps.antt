@@ -14,7 +14,7 @@ entry_is : (label : ℕ → Option Label) (settled : ℕ → Bool) (k : ℕ × �
 entry_is label settled k l on has =
     on.is ∙ ap (λ (m : Label). entry_of m k.2) (one_label label k.2 on.own l on.has has)
 
--- at the start only the goal waits
+-- at the start only the destination waits
 pub queue_begun : (label : ℕ → Option Label) (settled : ℕ → Bool) (goal : ℕ) (queue : List (ℕ × ℕ × ℕ))
     → IsPut (λ _. None) label goal (Some home) → ((v : ℕ) → settled v ≡ false)
     → ((k : ℕ × ℕ × ℕ) → Among k queue ↔ (entry_of home goal ≡ k))

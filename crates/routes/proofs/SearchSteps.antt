@@ -162,7 +162,7 @@ module _ (g : Digraph) (goal : ℕ) (limits : IsWithinLimits g) where
           | inr away ↦ old away (sym (put.other v away) ∙ has)
         ]
 
-    -- the goal's label isn't bettered
+    -- the destination's label isn't bettered
     goal_apart : goal ≢ (arc_at g.arcs e).from
     goal_apart here =
         let worse = better home (subst (λ v. label v ≡ Some home) here on.at_home) in
@@ -357,7 +357,7 @@ module _ (g : Digraph) (goal : ℕ) (limits : IsWithinLimits g) where
           light = on.light;
         }
 
-  -- at the start only the goal has a label, and no node is settled
+  -- at the start only the destination has a label, and no node is settled
   pub begun : (label : ℕ → Option Label) (settled : ℕ → Bool) → IsPut (λ _. None) label goal (Some home)
       → ((v : ℕ) → settled v ≡ false) → IsSearch g goal label settled 0 home []
   begun label settled put none =
@@ -373,7 +373,7 @@ module _ (g : Digraph) (goal : ℕ) (limits : IsWithinLimits g) where
         light = λ v l has. of_home v l (λ k. k.weight ≤ k.hops * 40950000000) (omega arith) has;
       }
     where
-      -- each label is the goal's
+      -- each label is the destination's
       of_home : (v : ℕ) (l : Label) (P : Label → Type 0) → P home → label v ≡ Some l → P l
       of_home v l P holds has =
           elim (cases_eq v goal) [

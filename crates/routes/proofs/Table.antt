@@ -25,7 +25,7 @@ pub record IsWalkOf (arcs : List Arc) (a b : ℕ) (l : Label) (es : List ℕ) : 
   pub hops : length es ≡ l.hops
 
 module _ (arcs : List Arc) (goal : ℕ) (label : ℕ → Option Label) (table : IsTable arcs goal label) where
-  -- a label of no arcs is the goal's
+  -- a label of no arcs is the destination's
   at_goal : (l : Label) → label goal ≡ Some l → l ≡ home
   at_goal l has = let e : Some home ≡ Some l = sym table.at_home ∙ has in cc
 

@@ -118,7 +118,7 @@ written arcs labels goal source node taken out first routes has on done =
     (sym (arrives arcs labels source first.hops node taken out on done))
     (least_walk arcs goal (label_of labels) routes.table source first has)
 
--- a node has a label exactly where a walk leads from it to the goal
+-- a node has a label exactly where a walk leads from it to the destination
 pub reached_iff : (arcs : List Arc) (labels : List (Option Label)) (goal source : ℕ) (o : Option Label)
     → IsRoutes arcs labels goal → label_of labels source ≡ o
     → IsTrue (is_some o) ↔ ((walk : List ℕ) × IsWalk arcs source goal walk)

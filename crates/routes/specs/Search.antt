@@ -1,4 +1,4 @@
--- A search on its way. Nodes are settled from the goal on, nearest first; a node that isn't settled has the best label that
+-- A search on its way. Nodes are settled from the destination on, nearest first; a node that isn't settled has the best label that
 -- the arcs into settled nodes offer it.
 use Rattle.std.specs.Prelude.{◌≡◌, ◌≢◌, ℕ, ◌*◌, ◌<◌, ◌≤◌, ◌⊎◌, Bool, true, false, List, [], length, Option, Some, slice_index_or, slice_set, count_by}
 use Rattle.mn_base.specs.Among.{Among}
@@ -41,10 +41,10 @@ pub record IsInto (arcs : List Arc) (u : ℕ) (row : List ℕ) : Type 0 where
 
 -- last is the label of the node that was settled last; all settled nodes are no farther than it, and all others that have a
 -- label no nearer; the pending arcs are still to be looked at
-pub record IsSearch (g : Digraph) (goal : ℕ) (label : ℕ → Option Label) (settled : ℕ → Bool) (count : ℕ) (last : Label)
+pub record IsSearch (g : Digraph) (destination : ℕ) (label : ℕ → Option Label) (settled : ℕ → Bool) (count : ℕ) (last : Label)
     (pending : List ℕ) : Type 0 where
-  pub at_home : label goal ≡ Some home
-  pub led : (v : ℕ) (l : Label) → label v ≡ Some l → v ≢ goal → IsLedBySettled g.arcs label settled v l
+  pub at_home : label destination ≡ Some home
+  pub led : (v : ℕ) (l : Label) → label v ≡ Some l → v ≢ destination → IsLedBySettled g.arcs label settled v l
   pub offered : (e : ℕ) (m : Label) → e < length g.arcs → settled (arc_at g.arcs e).to ≡ true
       → label (arc_at g.arcs e).to ≡ Some m
       → Among e pending ⊎ HasNoWorse label (arc_at g.arcs e).from (offer_of g.arcs e m)
@@ -72,12 +72,12 @@ pub record IsQueue (label : ℕ → Option Label) (settled : ℕ → Bool) (queu
   pub stands : (k : ℕ × ℕ × ℕ) → Among k queue → IsEntry label settled k
 
 -- what is known at each step
-pub record IsSearching (g : Digraph) (goal : ℕ) (labels : List (Option Label)) (settled : List Bool)
+pub record IsSearching (g : Digraph) (destination : ℕ) (labels : List (Option Label)) (settled : List Bool)
     (queue : List (ℕ × ℕ × ℕ)) (last : Label) (pending : List ℕ) : Type 0 where
   pub limits : IsWithinLimits g
   pub labels_len : length labels ≡ g.nodes
   pub settled_len : length settled ≡ g.nodes
-  pub search : IsSearch g goal (label_of labels) (settled_of settled) (settled_count settled) last pending
+  pub search : IsSearch g destination (label_of labels) (settled_of settled) (settled_count settled) last pending
   pub queue_is : IsQueue (label_of labels) (settled_of settled) queue
 
 -- the node v with the label l is settled: it had waited, and no node that waited is nearer
@@ -96,10 +96,10 @@ Offers labels labels' settled v c =
     × ((l : Label) → label_of labels v ≡ Some l → IsNoWorse c l))
 
 -- no arc is pending
-pub record IsAtRest (g : Digraph) (goal : ℕ) (labels : List (Option Label)) (settled : List Bool)
+pub record IsAtRest (g : Digraph) (destination : ℕ) (labels : List (Option Label)) (settled : List Bool)
     (queue : List (ℕ × ℕ × ℕ)) : Type 0 where
   pub last : Label
-  pub on : IsSearching g goal labels settled queue last []
+  pub on : IsSearching g destination labels settled queue last []
 
 -- for each node the arcs into it
 pub record IsIncoming (g : Digraph) (rows : List (List ℕ)) : Type 0 where

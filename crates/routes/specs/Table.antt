@@ -1,4 +1,4 @@
--- The table that a search leaves: for each node that reaches the goal, the first arc of its least walk, with the walk's
+-- The table that a search leaves: for each node that reaches the destination, the first arc of its least walk, with the walk's
 -- weight and its number of arcs. Only neighbours are compared in it; that the walks are least follows.
 use Rattle.std.specs.Prelude.{◌≡◌, ◌≢◌, ℕ, ◌+◌, ◌<◌, ◌≤◌, ◌⊎◌, List, length, Option, Some, None, slice_index_or}
 use Rattle.routes.specs.declared.graph.Arc.{Arc}
@@ -10,7 +10,7 @@ use Rattle.routes.specs.Walk.{arc_at}
 abbrev pub label_of : List (Option Label) → ℕ → Option Label
 label_of labels v = slice_index_or labels v None
 
--- the label of the goal
+-- the label of the destination
 abbrev pub home : Label
 home = record { weight = 0; hops = 0; next = 0 }
 
@@ -42,14 +42,14 @@ pub record HasNoWorse (label : ℕ → Option Label) (v : ℕ) (c : Label) : Typ
   pub below : IsNoWorse own c
 
 -- each label stands for an arc and the label behind it, and no arc offers a better one
-pub record IsTable (arcs : List Arc) (goal : ℕ) (label : ℕ → Option Label) : Type 0 where
-  pub at_home : label goal ≡ Some home
-  pub led : (v : ℕ) (l : Label) → label v ≡ Some l → v ≢ goal → IsLedBy arcs label v l
+pub record IsTable (arcs : List Arc) (destination : ℕ) (label : ℕ → Option Label) : Type 0 where
+  pub at_home : label destination ≡ Some home
+  pub led : (v : ℕ) (l : Label) → label v ≡ Some l → v ≢ destination → IsLedBy arcs label v l
   pub settled : (e : ℕ) (m : Label) → e < length arcs → label (arc_at arcs e).to ≡ Some m
       → HasNoWorse label (arc_at arcs e).from (offer_of arcs e m)
 
 -- what routes keep: a graph within its limits, and a table of it that has a place for each node
-pub record IsRoutes (arcs : List Arc) (labels : List (Option Label)) (goal : ℕ) : Type 0 where
+pub record IsRoutes (arcs : List Arc) (labels : List (Option Label)) (destination : ℕ) : Type 0 where
   pub graph : IsWithinLimits (record { nodes = length labels; arcs = arcs })
-  pub place : goal < length labels
-  pub table : IsTable arcs goal (label_of labels)
+  pub place : destination < length labels
+  pub table : IsTable arcs destination (label_of labels)

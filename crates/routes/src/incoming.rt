@@ -40,7 +40,7 @@ impl Incoming {
     }
 }
 
-// A table of so many empty rows.
+/// A table of so many empty rows.
 fn empty_rows(alloc: Global, count: u32) -> Result<Vec<Vec<u32>>, NoMemory>
     ensures len { IfOk result (λ rows. vec_len rows ≡ count) }
     ensures empty { IfOk result (λ rows. All (λ row. row.items ≡ []) rows.items) }

@@ -10,14 +10,14 @@ pub(crate) struct Label {
     pub(crate) next: u32,
 }
 
-// Whether a label is at least as good as another.
+/// Whether a label is at least as good as another.
 pub(crate) fn is_no_worse(label: Label, other: Label) -> bool
     ensures { IsTrue result ↔ IsNoWorse label other }
 {
     label <= other
 }
 
-// The entry of a node in the queue.
+/// The entry of a node in the queue.
 pub(crate) fn entry(label: Label, node: u32) -> (u64, u32, u32)
     ensures { result ≡ entry_of label node }
 {

@@ -20,7 +20,7 @@ pub(crate) struct Search {
 }
 
 impl Search {
-    // The start: only the destination has a label, and no node is settled.
+    /// The start: only the destination has a label, and no node is settled.
     pub(crate) fn start(alloc: Global, graph: &Graph, destination: u32) -> Result<Search, NoMemory>
         requires { destination < graph.now.nodes }
         ensures destination { IfOk result (λ s. s.destination ≡ destination) }
@@ -43,7 +43,7 @@ impl Search {
         })
     }
 
-    // Settles the nearest node that waits.
+    /// Settles the nearest node that waits.
     fn settle(&mut self) -> Option<(u32, Label)>
         requires places { length self.old.settled.items ≡ length self.old.labels.items }
         requires queue { IsQueue (label_of self.old.labels.items) (settled_of self.old.settled.items) self.old.queue }
@@ -60,7 +60,7 @@ impl Search {
         Some((node, label))
     }
 
-    // Gives a node a label, and adds its entry.
+    /// Gives a node a label, and adds its entry.
     fn put(&mut self, node: u32, label: Label) -> Result<(), NoMemory>
         requires { node < length self.old.labels.items }
         ensures destination { self.new.destination ≡ self.old.destination }
@@ -74,7 +74,7 @@ impl Search {
         Ok(())
     }
 
-    // Offers a label to a node, which takes it if it waits and has none or a worse one.
+    /// Offers a label to a node, which takes it if it waits and has none or a worse one.
     fn offer(&mut self, node: u32, label: Label) -> Result<(), NoMemory>
         requires node { node < length self.old.labels.items }
         requires places { length self.old.settled.items ≡ length self.old.labels.items }
@@ -97,7 +97,7 @@ impl Search {
         }
     }
 
-    // Looks at each arc of the row: those into the node that was settled last, which has the label `last`.
+    /// Looks at each arc of the row: those into the node that was settled last, which has the label `last`.
     fn relax(&mut self, graph: &Graph, row: &[u32], last: Label) -> Result<(), NoMemory>
         requires { IsSearching graph.now self.old.destination self.old.labels.items self.old.settled.items self.old.queue last row.now }
         ensures destination { self.new.destination ≡ self.old.destination }
@@ -117,7 +117,7 @@ impl Search {
         Ok(())
     }
 
-    // Settles all nodes that reach the destination.
+    /// Settles all nodes that reach the destination.
     pub(crate) fn run(&mut self, graph: &Graph, incoming: &Incoming) -> Result<(), NoMemory>
         requires goal { self.old.destination < graph.now.nodes }
         requires incoming { IsIncoming graph.now incoming.now }

@@ -5,7 +5,7 @@ use mn_base::NoMemory;
 use std::alloc::Global;
 use std::test::Fail;
 
-// The graph of these arcs (from, to, weight); those whose ends aren't nodes are left out.
+/// The graph of these arcs (from, to, weight); those whose ends aren't nodes are left out.
 fn graph_of(alloc: Global, nodes: u32, ends: &[(u32, u32, u64)]) -> Result<Graph, NoMemory>
     requires nodes { nodes ≤ 4096 }
     requires count { length ends.now ≤ 262144 }
@@ -24,7 +24,7 @@ fn graph_of(alloc: Global, nodes: u32, ends: &[(u32, u32, u64)]) -> Result<Graph
     Ok(Graph::new(nodes, arcs))
 }
 
-// Whether the least walk is the one that is wanted.
+/// Whether the least walk is the one that is wanted.
 fn has_walk(
     alloc: Global,
     graph: &Graph,
@@ -44,8 +44,8 @@ fn has_walk(
     })
 }
 
-// Four nodes S, X, Y and D (0 to 3), each edge as two arcs: of two routes of equal latency the one with the lesser first
-// link is taken, in both directions.
+/// Four nodes S, X, Y and D (0 to 3), each edge as two arcs: of two routes of equal latency the one with the lesser first
+/// link is taken, in both directions.
 #[test]
 fn of_two_equal_routes_the_lesser_first_link_wins(rt: HostRuntime) -> Result<(), Fail> {
     let alloc = rt.alloc();
@@ -68,7 +68,7 @@ fn of_two_equal_routes_the_lesser_first_link_wins(rt: HostRuntime) -> Result<(),
     Ok(())
 }
 
-// The same with the first two edges the other way round: the node that is settled first isn't on the route.
+/// The same with the first two edges the other way round: the node that is settled first isn't on the route.
 #[test]
 fn the_node_that_is_settled_first_does_not_win(rt: HostRuntime) -> Result<(), Fail> {
     let alloc = rt.alloc();
@@ -102,7 +102,7 @@ fn without_arcs_a_node_reaches_only_itself(rt: HostRuntime) -> Result<(), Fail> 
     Ok(())
 }
 
-// Of parallel arcs the lightest is taken, and of those the first; an arc isn't walked against its direction.
+/// Of parallel arcs the lightest is taken, and of those the first; an arc isn't walked against its direction.
 #[test]
 fn of_parallel_arcs_the_first_lightest_is_taken(rt: HostRuntime) -> Result<(), Fail> {
     let alloc = rt.alloc();
@@ -112,7 +112,7 @@ fn of_parallel_arcs_the_first_lightest_is_taken(rt: HostRuntime) -> Result<(), F
     Ok(())
 }
 
-// A cycle of weight 0 is never walked round, and of walks of one weight the one with fewer arcs is taken.
+/// A cycle of weight 0 is never walked round, and of walks of one weight the one with fewer arcs is taken.
 #[test]
 fn cycles_of_weight_0_are_left_out(rt: HostRuntime) -> Result<(), Fail> {
     let alloc = rt.alloc();
@@ -134,7 +134,7 @@ fn cycles_of_weight_0_are_left_out(rt: HostRuntime) -> Result<(), Fail> {
     Ok(())
 }
 
-// Ties among walks of three arcs that differ first in the first, the second or the last arc.
+/// Ties among walks of three arcs that differ first in the first, the second or the last arc.
 #[test]
 fn ties_are_broken_at_the_first_arc_that_differs(rt: HostRuntime) -> Result<(), Fail> {
     let alloc = rt.alloc();
@@ -155,7 +155,7 @@ fn ties_are_broken_at_the_first_arc_that_differs(rt: HostRuntime) -> Result<(), 
     Ok(())
 }
 
-// The lesser of two keys: weight, number of arcs, first arc, second arc.
+/// The lesser of two keys: weight, number of arcs, first arc, second arc.
 fn lesser(
     best: Option<(u64, u32, usize, usize)>,
     key: (u64, u32, usize, usize),
@@ -166,7 +166,7 @@ fn lesser(
     }
 }
 
-// The least key of a walk from a to b by listing all walks of at most two arcs, which is enough for three nodes.
+/// The least key of a walk from a to b by listing all walks of at most two arcs, which is enough for three nodes.
 fn listed(ends: &[(u32, u32, u64)], a: u32, b: u32) -> Option<(u64, u32, usize, usize)> {
     if a == b {
         return Some((0, 0, 0, 0));
@@ -185,7 +185,7 @@ fn listed(ends: &[(u32, u32, u64)], a: u32, b: u32) -> Option<(u64, u32, usize, 
     best
 }
 
-// Whether a walk is the one of the key.
+/// Whether a walk is the one of the key.
 fn is_walk_of(walk: &[u32], key: (u64, u32, usize, usize)) -> bool {
     match walk {
         [] => key.1 == 0,
@@ -195,7 +195,7 @@ fn is_walk_of(walk: &[u32], key: (u64, u32, usize, usize)) -> bool {
     }
 }
 
-// Whether all walks to one node of a graph of three are those of the listing.
+/// Whether all walks to one node of a graph of three are those of the listing.
 fn agrees_toward(
     alloc: Global,
     graph: &Graph,
@@ -230,12 +230,12 @@ fn agrees(alloc: Global, ends: &[(u32, u32, u64)]) -> Result<bool, NoMemory>
     )
 }
 
-// One of the 18 arcs among three nodes of weight 0 or 1.
+/// One of the 18 arcs among three nodes of weight 0 or 1.
 fn arc_of(code: u32) -> (u32, u32, u64) {
     (code % 3, code / 3 % 3, u64::from(code / 9 % 2))
 }
 
-// Every graph of three nodes and three arcs of weight 0 or 1.
+/// Every graph of three nodes and three arcs of weight 0 or 1.
 #[test]
 fn small_graphs_have_the_walks_of_a_listing(rt: HostRuntime) -> Result<(), Fail> {
     let alloc = rt.alloc();

@@ -70,10 +70,10 @@ is_in least most n low high = both_true _ _ (le-leb least n low) (le-leb n most 
 fine_edge : (nodes : List Node) (e : ℕ) (edge : EdgeSpec) → IsEdgeAmong nodes edge → edge_fault (node_with nodes) e edge ≡ None
 fine_edge nodes e edge is =
     skip (is_some (node_with nodes edge.source) && is_some (node_with nodes edge.target)) _ _ (both_true _ _ (find_among nodes edge.source is.source) (find_among nodes edge.target is.target)) (
-    skip (is_within 1000 (10 ^ 12) edge.bps) _ _ (is_in 1000 (10 ^ 12) edge.bps is.bps_least is.bps_most) (
-    skip (is_within 0 10000000 edge.latency_us) _ _ (is_in 0 10000000 edge.latency_us (omega arith) is.latency_us) (
-    skip (is_within 1 1000 edge.queue) _ _ (is_in 1 1000 edge.queue is.queue_least is.queue_most) (
-    skip (is_within 0 1000000 edge.ppm) _ None (is_in 0 1000000 edge.ppm (omega arith) is.ppm) refl))))
+    skip (is_within 1000 (10 ^ 12) edge.bps) _ _ (is_in 1000 (10 ^ 12) edge.bps is.values.bps_least is.values.bps_most) (
+    skip (is_within 0 10000000 edge.latency_us) _ _ (is_in 0 10000000 edge.latency_us (omega arith) is.values.latency_us) (
+    skip (is_within 1 1000 edge.queue) _ _ (is_in 1 1000 edge.queue is.values.queue_least is.values.queue_most) (
+    skip (is_within 0 1000000 edge.ppm) _ None (is_in 0 1000000 edge.ppm (omega arith) is.values.ppm) refl))))
 
 -- ---- no first fault
 neither : {F : Type 0} (a b : Option F) → a ≡ None → b ≡ None → option_or a b ≡ None
@@ -109,12 +109,7 @@ edge_among : (nodes : List Node) (edge : EdgeSpec) → IsFaultless (node_with no
 edge_among nodes edge ok = record {
   source = id_among nodes edge.source ok.source;
   target = id_among nodes edge.target ok.target;
-  bps_least = ok.bps_least;
-  bps_most = ok.bps_most;
-  latency_us = ok.latency_us;
-  queue_least = ok.queue_least;
-  queue_most = ok.queue_most;
-  ppm = ok.ppm;
+  values = ok.values;
 }
 
 make_topology : (nodes : List Node) (edges : List EdgeSpec) (directed : Bool) → topo_fault nodes edges directed ≡ None → MakeTopology nodes edges directed

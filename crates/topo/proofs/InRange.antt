@@ -1,6 +1,7 @@
 -- What an edge without a fault has.
 use Rattle.std.proofs.Common.{◌≡◌, ◌<◌, ◌≤◌, ◌+◌, ◌^◌, ℕ, Bool, true, false, not, ◌&&◌, nat_le, List, length, get_or, refl, arith, Option, Some, None, is_some, if◌then◌else◌}
 use Rattle.std.proofs.lemmas.Bool.Decides.{nat_tests}
+use Rattle.mn_base.specs.Ranges.{AreInRange}
 use Rattle.topo.specs.declared.parts.EdgeSpec.{EdgeSpec}
 use Rattle.topo.specs.Faults.{first_fault, edge_fault, is_within}
 use Rattle.topo.proofs.Firsts.{first_fault-None}
@@ -9,12 +10,7 @@ use Rattle.topo.proofs.Firsts.{first_fault-None}
 pub record IsFaultless (find : ℕ → Option ℕ) (edge : EdgeSpec) : Type 0 where
   pub source : is_some (find edge.source) ≡ true
   pub target : is_some (find edge.target) ≡ true
-  pub bps_least : 1000 ≤ edge.bps
-  pub bps_most : edge.bps ≤ 10 ^ 12
-  pub latency_us : edge.latency_us ≤ 10000000
-  pub queue_least : 1 ≤ edge.queue
-  pub queue_most : edge.queue ≤ 1000
-  pub ppm : edge.ppm ≤ 1000000
+  pub values : AreInRange edge.bps edge.latency_us edge.queue edge.ppm
 
 passed : {F : Type 0} (b : Bool) (f : F) (rest : Option F) → (if not b then Some f else rest) ≡ None → (b ≡ true) × (rest ≡ None)
 passed true f rest e = (refl, e)
@@ -37,12 +33,14 @@ faultless find e edge none =
     record {
       source = (both (is_some (find edge.source)) _ ends.0).0;
       target = (both (is_some (find edge.source)) _ ends.0).1;
-      bps_least = (within 1000 (10 ^ 12) edge.bps bps.0).0;
-      bps_most = (within 1000 (10 ^ 12) edge.bps bps.0).1;
-      latency_us = (within 0 10000000 edge.latency_us latency.0).1;
-      queue_least = (within 1 1000 edge.queue queue.0).0;
-      queue_most = (within 1 1000 edge.queue queue.0).1;
-      ppm = (within 0 1000000 edge.ppm ppm.0).1;
+      values = record {
+        bps_least = (within 1000 (10 ^ 12) edge.bps bps.0).0;
+        bps_most = (within 1000 (10 ^ 12) edge.bps bps.0).1;
+        latency_us = (within 0 10000000 edge.latency_us latency.0).1;
+        queue_least = (within 1 1000 edge.queue queue.0).0;
+        queue_most = (within 1 1000 edge.queue queue.0).1;
+        ppm = (within 0 1000000 edge.ppm ppm.0).1;
+      };
     }
 
 pub faultless_at : (find : ℕ → Option ℕ) (edges : List EdgeSpec) (i : ℕ) (d : EdgeSpec) → first_fault (edge_fault find) 0 edges ≡ None → i < length edges → IsFaultless find (get_or edges i d)

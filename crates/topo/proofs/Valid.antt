@@ -72,12 +72,7 @@ is_link : (count : ℕ) (find : ℕ → Option ℕ) (edge : EdgeSpec) (a b : ℕ
 is_link count find edge a b ok leaves enters = record {
   leaves = leaves;
   enters = enters;
-  bps_least = ok.bps_least;
-  bps_most = ok.bps_most;
-  latency_us = ok.latency_us;
-  queue_least = ok.queue_least;
-  queue_most = ok.queue_most;
-  ppm = ok.ppm;
+  values = ok.values;
 }
 
 links_between_hold : (count : ℕ) (directed : Bool) (find : ℕ → Option ℕ) (edge : EdgeSpec) (o p : Option ℕ) → IsFaultless find edge → ((a : ℕ) → o ≡ Some a → a < count) → ((b : ℕ) → p ≡ Some b → b < count) → All (IsLink count) (links_between directed edge o p)

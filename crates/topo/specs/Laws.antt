@@ -1,6 +1,7 @@
 -- What a topology without a fault is, said of the given nodes and edges by themselves.
-use Rattle.std.specs.Prelude.{◌≡◌, ◌≢◌, ◌↔◌, ℕ, ◌≤◌, ◌^◌, Bool, List, length, None, All, Any, AllPairs}
+use Rattle.std.specs.Prelude.{◌≡◌, ◌≢◌, ◌↔◌, ℕ, ◌≤◌, Bool, List, length, None, All, Any, AllPairs}
 use Rattle.std.specs.List.{count_by}
+use Rattle.mn_base.specs.Ranges.{AreInRange}
 use Rattle.topo.specs.declared.parts.Node.{Node}
 use Rattle.topo.specs.declared.parts.EdgeSpec.{EdgeSpec}
 use Rattle.topo.specs.Nodes.{is_edge_node, node_with}
@@ -16,12 +17,7 @@ IsIdAmong nodes id = Any (λ node. node.id ≡ id) nodes
 pub record IsEdgeAmong (nodes : List Node) (edge : EdgeSpec) : Type 0 where
   pub source : IsIdAmong nodes edge.source
   pub target : IsIdAmong nodes edge.target
-  pub bps_least : 1000 ≤ edge.bps
-  pub bps_most : edge.bps ≤ 10 ^ 12
-  pub latency_us : edge.latency_us ≤ 10000000
-  pub queue_least : 1 ≤ edge.queue
-  pub queue_most : edge.queue ≤ 1000
-  pub ppm : edge.ppm ≤ 1000000
+  pub values : AreInRange edge.bps edge.latency_us edge.queue edge.ppm
 
 -- nodes and edges that make a topology
 pub record MakeTopology (nodes : List Node) (edges : List EdgeSpec) (directed : Bool) : Type 0 where

@@ -1,6 +1,7 @@
 -- What a topology is: its nodes and links, and what always holds of them.
-use Rattle.std.specs.Prelude.{◌≡◌, ◌≢◌, ℕ, ◌<◌, ◌≤◌, ◌^◌, Bool, List, length, Some, All, AllPairs}
+use Rattle.std.specs.Prelude.{◌≡◌, ◌≢◌, ℕ, ◌<◌, ◌≤◌, Bool, List, length, Some, All, AllPairs}
 use Rattle.std.specs.List.{count_by}
+use Rattle.mn_base.specs.Ranges.{AreInRange}
 use Rattle.topo.specs.declared.parts.Node.{Node}
 use Rattle.topo.specs.declared.parts.EdgeSpec.{EdgeSpec}
 use Rattle.topo.specs.declared.parts.Link.{Link}
@@ -15,12 +16,7 @@ pub record Graph : Type 0 where
 pub record IsLink (node_count : ℕ) (l : Link) : Type 0 where
   pub leaves : l.from < node_count
   pub enters : l.to < node_count
-  pub bps_least : 1000 ≤ l.bps
-  pub bps_most : l.bps ≤ 10 ^ 12
-  pub latency_us : l.latency_us ≤ 10000000
-  pub queue_least : 1 ≤ l.queue
-  pub queue_most : l.queue ≤ 1000
-  pub ppm : l.ppm ≤ 1000000
+  pub values : AreInRange l.bps l.latency_us l.queue l.ppm
 
 -- no address is that of both
 abbrev pub DifferInAddress : Node → Node → Type 0

@@ -3,7 +3,7 @@ use mn_base::PipeParams;
 use pipe::Step;
 use std::test::Fail;
 
-// 1,000 bytes take 10 ticks of 100,000 ns, and the latency is 50 ticks.
+/// 1,000 bytes take 10 ticks of 100,000 ns, and the latency is 50 ticks.
 const USUAL: PipeParams = PipeParams {
     bps: 8_000_000,
     latency_us: 5_000,
@@ -12,8 +12,8 @@ const USUAL: PipeParams = PipeParams {
     keep: 4_294_967_296,
 };
 
-// Two packets come to one pipe at tick 60, over a pipe each, and a third enters there at that tick. By their numbers, 3 goes
-// first, then 5, then 10, which is empty and waits for both. Packet 9 has no pipes to pass.
+/// Two packets come to one pipe at tick 60, over a pipe each, and a third enters there at that tick. By their numbers, 3 goes
+/// first, then 5, then 10, which is empty and waits for both. Packet 9 has no pipes to pass.
 #[test]
 fn packets_of_one_tick_go_by_their_numbers(rt: HostRuntime) -> Result<(), Fail> {
     let alloc = rt.alloc();

@@ -6,7 +6,7 @@ use pcap_io::PcapFault;
 use std::alloc::Global;
 use std::test::Fail;
 
-// The lines of these statuses, one behind another.
+/// The lines of these statuses, one behind another.
 fn lines_of(alloc: Global, statuses: &[Status]) -> Result<Vec<u8>, Fail> {
     let mut lines = Vec::new(alloc);
     for status in statuses {

@@ -5,13 +5,13 @@ use mn_base::Refusal;
 use std::alloc::{AllocError, Global};
 use std::test::Fail;
 
-// The fault of the words that stand between the spaces of a line.
+/// The fault of the words that stand between the spaces of a line.
 fn fault_of(alloc: Global, line: &str) -> Result<Option<Refusal<WordsFault>>, AllocError> {
     let words: Vec<&str> = line.split(' ').collect(alloc)?;
     Ok(read_words(alloc, words.as_slice()).err())
 }
 
-// The same, behind the three options that have to stand.
+/// The same, behind the three options that have to stand.
 fn fault_of_rest(alloc: Global, rest: &str) -> Result<Option<Refusal<WordsFault>>, AllocError> {
     let line = format!(in alloc; "chain --trace t --out o --report r {rest}")?;
     fault_of(alloc, line.as_str())

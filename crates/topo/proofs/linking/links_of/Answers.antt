@@ -7,15 +7,15 @@ use Rattle.topo.proofs.linking.links_of.Goals as goal
 
 pub push_links-requires-clause-latency_us : goal.push_links-requires-clause-latency_us
 push_links-requires-clause-latency_us c =
-    (faultless_at (get nat_cmp c.args.numbers.now) c.args.edges.now c.loop-edge.edge-index _ c.requires c.loop-edge-test.true).latency_us
+    (faultless_at (get nat_cmp c.args.numbers.now) c.args.edges.now c.loop-edge.edge-index _ c.requires c.loop-edge-test.true).values.latency_us
 
 pub push_links-requires-clause-queue : goal.push_links-requires-clause-queue
 push_links-requires-clause-queue c =
-    (faultless_at (get nat_cmp c.args.numbers.now) c.args.edges.now c.loop-edge.edge-index _ c.requires c.loop-edge-test.true).queue_most
+    (faultless_at (get nat_cmp c.args.numbers.now) c.args.edges.now c.loop-edge.edge-index _ c.requires c.loop-edge-test.true).values.queue_most
 
 pub push_links-requires-clause-ppm : goal.push_links-requires-clause-ppm
 push_links-requires-clause-ppm c =
-    (faultless_at (get nat_cmp c.args.numbers.now) c.args.edges.now c.loop-edge.edge-index _ c.requires c.loop-edge-test.true).ppm
+    (faultless_at (get nat_cmp c.args.numbers.now) c.args.edges.now c.loop-edge.edge-index _ c.requires c.loop-edge-test.true).values.ppm
 
 pub returns-then-len-gt-LINKS_MAX-clause-fault : goal.returns-then-len-gt-LINKS_MAX-clause-fault
 returns-then-len-gt-LINKS_MAX-clause-fault c =
