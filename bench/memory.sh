@@ -72,6 +72,7 @@ sweep() {
 # usage: tests CRATE LAST: refuses each allocation of each test of a crate in turn, up to number LAST
 tests() {
     local tests=$here/crates/$1/out/$1_tests last=$2 count=0 test number status
+    cd "$folder"
     : >"$folder/ends"
     for test in $("$tests" --list | sed -n 's/: test$//p'); do
         for number in $(seq 1 "$last"); do
