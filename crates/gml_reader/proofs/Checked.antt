@@ -12,7 +12,7 @@ use Rattle.gml_reader.specs.declared.grammar.Wanted.TheVariants as wanted
 use Rattle.gml_reader.specs.Grammar.{done, IsFile, IsFront}
 use Rattle.gml_reader.specs.Places.{is_left, is_right, is_left_kind, is_right_kind, lefts, rights, IsShallowTo, IsShallow, IsBadAt, IsDeepAt, IsCut}
 use Rattle.gml_reader.specs.States.{after}
-use Rattle.gml_reader.proofs.Completions.{Ends, step_to, step_from, dead, some_end, open_is_no_file, key_is_no_file}
+use Rattle.gml_reader.proofs.Completions.{Ends, step_to, step_from, dead, some_end, open_is_no_file, key_is_no_file, nothing}
 
 -- the tokens and such an end are a file, and nothing else completes them
 pub record IsState (tokens : List Token) (w : Wanted) (d : ℕ) : Type 0 where
@@ -51,9 +51,6 @@ no_file tokens w d s none file = none (s.to [] (subst IsFile (sym (append-nil to
 -- one token opens or closes at most one list
 abbrev MovesBy : Wanted × ℕ → ℕ → TokenKind → Type 0
 MovesBy p d k = p.1 + cond (is_right_kind k) 1 0 ≡ d + cond (is_left_kind k) 1 0
-
-nothing : {P : Type 0} (p : Wanted × ℕ) → None ≡ Some p → P
-nothing p e = cc
 
 depth_is : (w : Wanted) (n : ℕ) (p : Wanted × ℕ) → Some (w, n) ≡ Some p → p.1 ≡ n
 depth_is w n p e = sym (ap (λ q. q.1) (same_Some (w, n) p e))

@@ -143,7 +143,7 @@ not_begun d k rest kd is no_key no_right ends =
 abbrev Reached : Wanted × ℕ → List Token → Type 0
 Reached p rest = Ends p.0 p.1 rest
 
-nothing : {P : Type 0} (p : Wanted × ℕ) → None ≡ Some p → P
+pub nothing : {P : Type 0} (p : Wanted × ℕ) → None ≡ Some p → P
 nothing p e = cc
 
 list_step : (kd : TokenKind) (d : ℕ) (k : Token) (p : Wanted × ℕ) (rest : List Token) → k.kind ≡ kd → after wanted.Pair d kd ≡ Some p → EndsList d (k ∷ rest) → Reached p rest

@@ -10,6 +10,7 @@ use Rattle.gml_reader.specs.declared.walk.FirstPair.{FirstPair}
 use Rattle.gml_reader.specs.Grammar.{Pairs, done, plain, nested, spelled, IsPlain}
 use Rattle.gml_reader.specs.Walk.{IsListIn, IsPairOf, closing}
 use Rattle.gml_reader.proofs.Closing.{closing-inner}
+use Rattle.gml_reader.proofs.Completions.{tail_is}
 
 -- fewer than two tokens are no pair
 pub no_pair : (t : Pairs) (tokens : List Token) → tokens ≡ spelled t → length tokens < 2 → t ≡ done
@@ -28,9 +29,6 @@ pub record IsClosed (len : ℕ) (t : Pairs) (key : Token) (behind : List Token) 
   pub closed : 0 < length (drop end behind)
   pub pair : (inner rest : Bor (List Token)) (right : Token) → inner.now ≡ take end behind → drop end behind ≡ right ∷ rest.now → IsPairOf len t (inner_pair key inner rest)
 
-same_tail : (a b : Token) (xs ys : List Token) → a ∷ xs ≡ b ∷ ys → xs ≡ ys
-same_tail a b xs ys e = cc
-
 closed_list : (len : ℕ) (t : Pairs) (none : Token) (end : ℕ) → IsListIn len t → 2 ≤ length (spelled t) → (get_or (spelled t) 1 none).kind ≡ kind.Left → end ≡ closing (drop 2 (spelled t)) 0 → IsClosed len t (get_or (spelled t) 0 none) (drop 2 (spelled t)) end
 closed_list len done none end l some opens is = absurd (omega arith)
 closed_list len (plain key value more) none end l some opens is = absurd (left_is_no_value value.kind opens l.1)
@@ -40,7 +38,7 @@ closed_list len (nested key left inner right more) none end l some opens is =
     let back : drop end (spelled inner ++ (right ∷ spelled more)) ≡ right ∷ spelled more = drop_at (spelled inner) (right ∷ spelled more) end (sym at_right) in
     record {
       closed = omega (arith, ap length back);
-      pair = λ i r first inner_is rest_is. (refl, (l.3, inner_is ∙ front), same_tail first right r.now (spelled more) (sym rest_is ∙ back));
+      pair = λ i r first inner_is rest_is. (refl, (l.3, inner_is ∙ front), tail_is first right r.now (spelled more) (sym rest_is ∙ back));
     }
 
 pub closes : (len : ℕ) (t : Pairs) (tokens behind : List Token) (none : Token) (end : ℕ) → IsListIn len t → tokens ≡ spelled t → 2 ≤ length tokens → (get_or tokens 1 none).kind ≡ kind.Left → behind ≡ drop 2 tokens → end ≡ closing behind 0 → IsClosed len t (get_or tokens 0 none) behind end
