@@ -1,9 +1,12 @@
 -- Why reading digit by digit gives the value of the whole text.
-use Rattle.std.proofs.Common.{◌≡◌, ◌≤◌, ◌<◌, ◌^◌, ◌+◌, ℕ, zero, suc, Bool, true, false, List, [], ◌∷◌, length, take, get_or, refl, sym, ◌∙◌, ap, subst, arith, Some, None, ◌&&◌, nat_lt}
+use Rattle.std.proofs.Common.{◌≡◌, ◌≤◌, ◌<◌, ◌^◌, ◌+◌, ℕ, zero, suc, Bool, true, false, List, [], ◌∷◌, ◌++◌, ◌/◌, ◌%◌, length, take, get_or, refl, sym, ◌∙◌, ap, subst, arith, Some, None, ◌&&◌, nat_lt, length-append}
 use Rattle.std.proofs.lemmas.List.{take_all}
-use Rattle.std.proofs.lemmas.Bool.{le-ltb, lt-ltb}
+use Rattle.std.proofs.lemmas.List.Folds.{list_all-append}
+use Rattle.std.proofs.lemmas.Bool.{le-leb, le-ltb, lt-ltb}
+use Rattle.std.proofs.lemmas.Fmt.{decimal_by_steps}
+use Rattle.std.specs.Prelude.{decimal}
 use Rattle.std.specs.List.{list_all, fold}
-use Rattle.std.proofs.lemmas.List.Sums.{fold_more}
+use Rattle.std.proofs.lemmas.List.Sums.{fold_more, fold-append}
 use Rattle.mn_base.specs.Decimal.{is_digit, with_digit, number_of, is_decimal, decimal_of}
 
 -- a digit more never makes the value less
@@ -51,3 +54,38 @@ beyond_u64 text i value b within same read over =
 
 pub one_more : (text : List ℕ) (i value b : ℕ) → i < length text → value ≡ number_of (take i text) → b ≡ get_or text i 0 → with_digit value b ≡ number_of (take (i + 1) text)
 one_more text i value b within same read = sym (fold_more with_digit 0 text i 0 within ∙ cc)
+
+-- ---- a printed number
+-- a text of digits that is worth n
+record Writes (n : ℕ) (text : List ℕ) : Type 0 where
+  some : 0 < length text
+  digits : list_all is_digit text ≡ true
+  value : number_of text ≡ n
+
+-- a digit is written as its byte
+writes_digit : (n : ℕ) → n < 10 → Writes n ((48 + n) ∷ [])
+writes_digit n small = record {
+  some = omega arith;
+  digits = rw (is_digit_of n small) refl;
+  value = omega arith;
+}
+  where
+    is_digit_of : (d : ℕ) → d < 10 → is_digit (48 + d) ≡ true
+    is_digit_of d small = rw (le-leb 48 (48 + d) (omega arith), le-leb (48 + d) 57 (omega arith)) refl
+
+-- a longer number is written as all but its last digit, and then that
+writes_more : (n : ℕ) (front : List ℕ) → 10 ≤ n → Writes (n / 10) front → Writes n (front ++ (48 + n % 10) ∷ [])
+writes_more n front great is =
+    let last : Writes (n % 10) ((48 + n % 10) ∷ []) = writes_digit (n % 10) (omega arith) in
+    record {
+      some = omega (arith, length-append front ((48 + n % 10) ∷ []));
+      digits = list_all-append is_digit front ((48 + n % 10) ∷ []) ∙ rw (is.digits, last.digits) refl;
+      value = fold-append with_digit 0 front ((48 + n % 10) ∷ []) ∙ rw is.value (omega arith);
+    }
+
+-- what is printed of a number reads back as that number
+pub decimal_reads_back : (n : ℕ) → n < 2 ^ 64 → decimal_of (decimal n) ≡ Some n
+decimal_reads_back n small =
+    let is : Writes n (decimal n) = decimal_by_steps Writes writes_digit writes_more n small in
+    let below : number_of (decimal n) < 2 ^ 64 = rw is.value small in
+    rw (is_decimal_of (decimal n) is.some is.digits below) (ap Some is.value)

@@ -1,6 +1,8 @@
 pub mod Among
 pub mod Causes
 pub mod Decimal
+pub mod Laws
+pub mod Params
 pub mod Ranges
 pub mod Refused
 pub mod Times

@@ -3,7 +3,7 @@
 pub enum Cause {
     /// The visit's loss word is at least the pipe's keep.
     Loss,
-    /// As many packets as the queue limit allows wait or transmit.
+    /// As many packets as the queue limit allows wait or transmit already.
     Full,
 }
 
@@ -18,7 +18,7 @@ pub enum Unbound {
     NoSource,
     /// No node has the destination address.
     NoDestination,
-    /// No walk leads from the source to the destination.
+    /// No route leads from the source to the destination.
     NoRoute,
     /// The least route has more than 255 pipes.
     TooFar,

@@ -1,6 +1,7 @@
-// What every crate of the emulator speaks in: units, parameters of a pipe, bytes, refusals, causes and limits.
-// It stands on std alone.
-// Its contracts speak in the formulas of specs/Units.antt and in the decimals of specs/Decimal.antt.
+//! What every crate of the emulator speaks in: units, limits, ranges, parameters of a pipe, bytes, refusals and causes.
+//! It stands on std alone.
+//! Its contracts speak in the formulas of specs/Units.antt, the ranges of specs/Ranges.antt and the decimals of
+//! specs/Decimal.antt.
 #![tactic(auto)]
 
 mod bytes;
@@ -9,6 +10,7 @@ mod decimal;
 pub mod laws;
 pub mod limits;
 mod params;
+mod ranges;
 mod refusal;
 mod units;
 
@@ -16,8 +18,9 @@ pub use bytes::Bytes;
 pub use causes::{Cause, Unbound};
 pub use decimal::read_u64;
 pub use params::PipeParams;
+pub use ranges::{is_bandwidth, is_latency, is_link_type, is_loss, is_queue_limit};
 pub use refusal::{NoMemory, Refusal};
-pub use units::{keep_both, keep_of_ppm, ticks_of_us, tx_ns};
+pub use units::{entry_tick, keep_both, keep_of_ppm, ticks_of_us, tx_ns};
 
 #[cfg(test)]
 mod tests;

@@ -2,7 +2,7 @@ ghost use Rattle.std.specs.Prelude.{◌≡◌};
 
 use std::alloc::{AllocError, AllocFailed};
 
-/// The one free answer: memory was refused.
+/// Out of memory, the one answer that may come at any call that allocates.
 #[derive(Clone, Copy, Debug, PartialEq, Eq)]
 pub struct NoMemory;
 
@@ -25,6 +25,21 @@ pub enum Refusal<F> {
     NoMemory,
     /// What was read has this fault.
     Fault(F),
+}
+
+impl<F> Refusal<F> {
+    ghost use Rattle.mn_base.specs.Refused.{IfFault, MapsFault};
+
+    /// The same refusal with its fault mapped. `NoMemory` stays `NoMemory`.
+    pub fn map_fault<G, M: FnOnce(F) -> G>(self, map: M) -> Refusal<G>
+        requires { IfFault self (M.pre map) }
+        ensures { MapsFault (M.post map) self result }
+    {
+        match self {
+            Refusal::NoMemory => Refusal::NoMemory,
+            Refusal::Fault(fault) => Refusal::Fault(map(fault)),
+        }
+    }
 }
 
 impl<F> From<NoMemory> for Refusal<F> {

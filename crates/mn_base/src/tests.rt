@@ -1,4 +1,7 @@
-use crate::{Bytes, PipeParams, keep_both, keep_of_ppm, read_u64, ticks_of_us, tx_ns};
+use crate::{
+    Bytes, PipeParams, Refusal, entry_tick, is_bandwidth, is_latency, is_link_type, is_loss,
+    is_queue_limit, keep_both, keep_of_ppm, read_u64, ticks_of_us, tx_ns,
+};
 use std::test::Fail;
 
 #[test]
@@ -11,6 +14,7 @@ fn formulas_at_worked_values(rt: HostRuntime) {
     assert_eq!(rt; keep_of_ppm(0), 4_294_967_296);
     assert_eq!(rt; keep_of_ppm(1_000_000), 0);
     assert_eq!(rt; keep_both(2_147_483_648, 2_147_483_648), 1_073_741_824);
+    assert_eq!(rt; entry_tick(1_000_000, 100_000, 1_250_000), 2);
 }
 
 #[test]
@@ -30,4 +34,35 @@ fn bytes_and_params(rt: HostRuntime) -> Result<(), Fail> {
     let params = PipeParams::new(8_000_000, 5_000, 50, 4_294_967_296, 100_000);
     assert_eq!(rt; params.latency_ticks, 50);
     Ok(())
+}
+
+#[test]
+fn ranges_have_their_ends(rt: HostRuntime) {
+    assert_eq!(rt;
+        [999, 1_000, 1_000_000_000_000, 1_000_000_000_001].map(is_bandwidth),
+        [false, true, true, false]
+    );
+    assert_eq!(rt;
+        [0, 10_000_000, 10_000_001].map(is_latency),
+        [true, true, false]
+    );
+    assert_eq!(rt;
+        [0, 1, 1_000, 1_001].map(is_queue_limit),
+        [false, true, true, false]
+    );
+    assert_eq!(rt; [0, 1_000_000, 1_000_001].map(is_loss), [true, true, false]);
+    assert_eq!(rt;
+        [0, 1, 101, 113, 228].map(is_link_type),
+        [false, true, true, false, true]
+    );
+}
+
+#[test]
+fn a_fault_is_mapped_and_out_of_memory_stays(rt: HostRuntime) {
+    let none: Refusal<u8> = Refusal::NoMemory;
+    assert_eq!(rt; none.map_fault(u64::from), Refusal::NoMemory);
+    assert_eq!(rt;
+        Refusal::Fault(3u8).map_fault(u64::from),
+        Refusal::Fault(3u64)
+    );
 }

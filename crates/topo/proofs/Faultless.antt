@@ -1,18 +1,21 @@
 -- There is no first fault exactly where nodes and edges make a topology.
-use Rattle.std.proofs.Common.{◌≡◌, ◌≢◌, ◌<◌, ◌≤◌, ◌+◌, ◌==◌, ◌^◌, ℕ, suc, Bool, true, false, not, ◌&&◌, nat_lt, List, [], ◌∷◌, length, take, get_or, refl, sym, ◌∙◌, ap, subst, arith, Option, Some, None, is_some, if◌then◌else◌, option_and_then, length-take}
-use Rattle.std.proofs.lemmas.Bool.{eq-eqb, le-ltb, le-leb, false≢true}
+use Rattle.std.proofs.Common.{◌≡◌, ◌≢◌, ◌<◌, ◌≤◌, ◌+◌, ◌==◌, ℕ, suc, Bool, true, false, not, ◌&&◌, nat_lt, List, [], ◌∷◌, length, take, get_or, refl, sym, ◌∙◌, ap, subst, arith, Option, Some, None, is_some, if◌then◌else◌, option_and_then, length-take}
+use Rattle.std.proofs.lemmas.Bool.{eq-eqb, le-ltb, false≢true}
 use Rattle.std.proofs.lemmas.Bool.Decides.{nat_tests}
 use Rattle.std.proofs.lemmas.List.{get_or-take, get_or_default}
 use Rattle.std.proofs.lemmas.List.Elements.{All-get_or, All-from_get_or}
 use Rattle.std.proofs.lemmas.List.Folds.{Any-from_list_any, list_any-from_Any}
 use Rattle.std.specs.List.{AllPairs, list_any, count_by}
 use Rattle.std.specs.Option.{option_or}
+use Rattle.mn_base.specs.Ranges.{is_bandwidth, is_latency, is_queue_limit, is_loss}
+use Rattle.mn_base.specs.declared.limits.TheConstants.{NODES_MAX, EDGE_NODES_MAX, LINKS_MAX}
+use Rattle.mn_base.proofs.RangeTests.{bandwidth_passes, latency_passes, queue_limit_passes, loss_passes}
 use Rattle.topo.specs.declared.parts.Node.{Node}
 use Rattle.topo.specs.declared.parts.EdgeSpec.{EdgeSpec}
 use Rattle.topo.specs.declared.faults.TopoFault.TheVariants.{DuplicateAddress}
 use Rattle.topo.specs.Nodes.{has_id, has_address, is_edge_node, node_with}
 use Rattle.topo.specs.Links.{links_of}
-use Rattle.topo.specs.Faults.{first_fault, node_count_fault, id_fault, address_fault, edge_fault, is_within, topo_fault}
+use Rattle.topo.specs.Faults.{first_fault, node_count_fault, id_fault, address_fault, edge_fault, topo_fault}
 use Rattle.topo.specs.Topologies.{DifferInAddress}
 use Rattle.topo.specs.Laws.{IsIdAmong, IsEdgeAmong, MakeTopology, FaultlessMakeTopology}
 use Rattle.topo.proofs.Firsts.{is_some-position}
@@ -64,16 +67,13 @@ both_true : (a b : Bool) → a ≡ true → b ≡ true → (a && b) ≡ true
 both_true true b ta tb = tb
 both_true false b ta tb = ta
 
-is_in : (least most n : ℕ) → least ≤ n → n ≤ most → is_within least most n ≡ true
-is_in least most n low high = both_true _ _ (le-leb least n low) (le-leb n most high)
-
 fine_edge : (nodes : List Node) (e : ℕ) (edge : EdgeSpec) → IsEdgeAmong nodes edge → edge_fault (node_with nodes) e edge ≡ None
 fine_edge nodes e edge is =
     skip (is_some (node_with nodes edge.source) && is_some (node_with nodes edge.target)) _ _ (both_true _ _ (find_among nodes edge.source is.source) (find_among nodes edge.target is.target)) (
-    skip (is_within 1000 (10 ^ 12) edge.bps) _ _ (is_in 1000 (10 ^ 12) edge.bps is.values.bps_least is.values.bps_most) (
-    skip (is_within 0 10000000 edge.latency_us) _ _ (is_in 0 10000000 edge.latency_us (omega arith) is.values.latency_us) (
-    skip (is_within 1 1000 edge.queue) _ _ (is_in 1 1000 edge.queue is.values.queue_least is.values.queue_most) (
-    skip (is_within 0 1000000 edge.ppm) _ None (is_in 0 1000000 edge.ppm (omega arith) is.values.ppm) refl))))
+    skip (is_bandwidth edge.bps) _ _ (bandwidth_passes edge.bps is.values.bandwidth) (
+    skip (is_latency edge.latency_us) _ _ (latency_passes edge.latency_us is.values.latency) (
+    skip (is_queue_limit edge.queue) _ _ (queue_limit_passes edge.queue is.values.queue_limit) (
+    skip (is_loss edge.ppm) _ None (loss_passes edge.ppm is.values.loss) refl))))
 
 -- ---- no first fault
 neither : {F : Type 0} (a b : Option F) → a ≡ None → b ≡ None → option_or a b ≡ None
@@ -95,11 +95,11 @@ few_enough limit n f rest few none = rw (le-ltb limit n few) none
 
 faultless : (nodes : List Node) (edges : List EdgeSpec) (directed : Bool) → MakeTopology nodes edges directed → topo_fault nodes edges directed ≡ None
 faultless nodes edges directed make =
-    neither (node_count_fault nodes) _ (few_enough 4096 (length nodes) _ _ make.few_nodes (few_enough 512 (count_by is_edge_node nodes) _ None make.few_edge_nodes refl)) (
+    neither (node_count_fault nodes) _ (few_enough NODES_MAX (length nodes) _ _ make.few_nodes (few_enough EDGE_NODES_MAX (count_by is_edge_node nodes) _ None make.few_edge_nodes refl)) (
     neither (first_fault (id_fault nodes) 0 nodes) _ (from_0 (id_fault nodes) nodes (λ i d within. new_id nodes i d make.ids within)) (
     neither (first_fault (address_fault nodes) 0 nodes) _ (from_0 (address_fault nodes) nodes (λ i d within. new_address nodes i d make.addresses within)) (
     neither (first_fault (edge_fault (node_with nodes)) 0 edges) _ (from_0 (edge_fault (node_with nodes)) edges (λ i d within. fine_edge nodes i _ (All-get_or (IsEdgeAmong nodes) edges i d within make.edges_hold))) (
-    few_enough 32768 (length (links_of directed (node_with nodes) edges)) _ None make.few_links refl))))
+    few_enough LINKS_MAX (length (links_of directed (node_with nodes) edges)) _ None make.few_links refl))))
 
 -- ---- no fault makes a topology
 no_edge : EdgeSpec

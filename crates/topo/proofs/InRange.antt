@@ -1,9 +1,9 @@
 -- What an edge without a fault has.
-use Rattle.std.proofs.Common.{◌≡◌, ◌<◌, ◌≤◌, ◌+◌, ◌^◌, ℕ, Bool, true, false, not, ◌&&◌, nat_le, List, length, get_or, refl, arith, Option, Some, None, is_some, if◌then◌else◌}
-use Rattle.std.proofs.lemmas.Bool.Decides.{nat_tests}
-use Rattle.mn_base.specs.Ranges.{AreInRange}
+use Rattle.std.proofs.Common.{◌≡◌, ◌<◌, ◌+◌, ℕ, Bool, true, false, not, ◌&&◌, List, length, get_or, refl, Option, Some, None, is_some, if◌then◌else◌}
+use Rattle.mn_base.specs.Ranges.{AreInRange, is_bandwidth, is_latency, is_queue_limit, is_loss}
+use Rattle.mn_base.proofs.RangeTests.{bandwidth_within, latency_within, queue_limit_within, loss_within}
 use Rattle.topo.specs.declared.parts.EdgeSpec.{EdgeSpec}
-use Rattle.topo.specs.Faults.{first_fault, edge_fault, is_within}
+use Rattle.topo.specs.Faults.{first_fault, edge_fault}
 use Rattle.topo.proofs.Firsts.{first_fault-None}
 
 -- its ends are nodes, and its values are in their ranges
@@ -20,26 +20,21 @@ both : (a b : Bool) → (a && b) ≡ true → (a ≡ true) × (b ≡ true)
 both true b e = (refl, e)
 both false b e = cc
 
-within : (least most n : ℕ) → is_within least most n ≡ true → (least ≤ n) × (n ≤ most)
-within least most n e = let parts = both (nat_le least n) (nat_le n most) e in (grind (arith, nat_tests), grind (arith, nat_tests))
-
 pub faultless : (find : ℕ → Option ℕ) (e : ℕ) (edge : EdgeSpec) → edge_fault find e edge ≡ None → IsFaultless find edge
 faultless find e edge none =
     let ends = passed (is_some (find edge.source) && is_some (find edge.target)) _ _ none in
-    let bps = passed (is_within 1000 (10 ^ 12) edge.bps) _ _ ends.1 in
-    let latency = passed (is_within 0 10000000 edge.latency_us) _ _ bps.1 in
-    let queue = passed (is_within 1 1000 edge.queue) _ _ latency.1 in
-    let ppm = passed (is_within 0 1000000 edge.ppm) _ _ queue.1 in
+    let bps = passed (is_bandwidth edge.bps) _ _ ends.1 in
+    let latency = passed (is_latency edge.latency_us) _ _ bps.1 in
+    let queue = passed (is_queue_limit edge.queue) _ _ latency.1 in
+    let ppm = passed (is_loss edge.ppm) _ _ queue.1 in
     record {
       source = (both (is_some (find edge.source)) _ ends.0).0;
       target = (both (is_some (find edge.source)) _ ends.0).1;
       values = record {
-        bps_least = (within 1000 (10 ^ 12) edge.bps bps.0).0;
-        bps_most = (within 1000 (10 ^ 12) edge.bps bps.0).1;
-        latency_us = (within 0 10000000 edge.latency_us latency.0).1;
-        queue_least = (within 1 1000 edge.queue queue.0).0;
-        queue_most = (within 1 1000 edge.queue queue.0).1;
-        ppm = (within 0 1000000 edge.ppm ppm.0).1;
+        bandwidth = bandwidth_within edge.bps bps.0;
+        latency = latency_within edge.latency_us latency.0;
+        queue_limit = queue_limit_within edge.queue queue.0;
+        loss = loss_within edge.ppm ppm.0;
       };
     }
 

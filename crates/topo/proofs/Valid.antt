@@ -8,6 +8,7 @@ use Rattle.std.proofs.lemmas.List.Folds.{list_any_at}
 use Rattle.std.proofs.lemmas.List.Quantifiers.{position-Some}
 use Rattle.std.specs.List.{All, AllPairs, list_any, count_by, flat_map}
 use Rattle.std.specs.Option.{option_or, option_map_or}
+use Rattle.mn_base.specs.declared.limits.TheConstants.{NODES_MAX, EDGE_NODES_MAX, LINKS_MAX}
 use Rattle.topo.specs.declared.parts.Node.{Node}
 use Rattle.topo.specs.declared.parts.EdgeSpec.{EdgeSpec}
 use Rattle.topo.specs.declared.parts.Link.{Link}
@@ -28,10 +29,10 @@ not_above limit n f rest e = by_test (nat_lt limit n) refl e
     by_test true t e = cc
     by_test false t e = (ltb-false limit n t, e)
 
-few : (nodes : List Node) → node_count_fault nodes ≡ None → (length nodes ≤ 4096) × (count_by is_edge_node nodes ≤ 512)
+few : (nodes : List Node) → node_count_fault nodes ≡ None → (length nodes ≤ NODES_MAX) × (count_by is_edge_node nodes ≤ EDGE_NODES_MAX)
 few nodes e =
-    let first = not_above 4096 (length nodes) _ _ e in
-    (first.0, (not_above 512 (count_by is_edge_node nodes) _ None first.1).0)
+    let first = not_above NODES_MAX (length nodes) _ _ e in
+    (first.0, (not_above EDGE_NODES_MAX (count_by is_edge_node nodes) _ None first.1).0)
 
 -- ---- ids and addresses
 none_of_cond : {F : Type 0} (b : Bool) (f : F) → cond b (Some f) None ≡ None → b ≡ false
@@ -121,7 +122,7 @@ topology_is_valid nodes specs directed no_fault =
     record {
       few_nodes = (few nodes none.counts).0;
       few_edge_nodes = (few nodes none.counts).1;
-      few_links = (not_above 32768 (length (links_of directed (node_with nodes) specs)) _ None none.links).0;
+      few_links = (not_above LINKS_MAX (length (links_of directed (node_with nodes) specs)) _ None none.links).0;
       ids = distinct_ids nodes none.ids;
       addresses = distinct_addresses nodes none.addresses;
       links_hold = links_hold nodes specs directed none.edges;

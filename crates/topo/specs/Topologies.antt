@@ -2,6 +2,7 @@
 use Rattle.std.specs.Prelude.{◌≡◌, ◌≢◌, ℕ, ◌<◌, ◌≤◌, Bool, List, length, Some, All, AllPairs}
 use Rattle.std.specs.List.{count_by}
 use Rattle.mn_base.specs.Ranges.{AreInRange}
+use Rattle.mn_base.specs.declared.limits.TheConstants.{NODES_MAX, EDGE_NODES_MAX, LINKS_MAX}
 use Rattle.topo.specs.declared.parts.Node.{Node}
 use Rattle.topo.specs.declared.parts.EdgeSpec.{EdgeSpec}
 use Rattle.topo.specs.declared.parts.Link.{Link}
@@ -23,9 +24,9 @@ abbrev pub DifferInAddress : Node → Node → Type 0
 DifferInAddress a b = (x : ℕ) → a.address ≡ Some x → b.address ≢ Some x
 
 pub record IsTopology (t : Graph) : Type 0 where
-  pub few_nodes : length t.nodes ≤ 4096
-  pub few_edge_nodes : count_by is_edge_node t.nodes ≤ 512
-  pub few_links : length t.links ≤ 32768
+  pub few_nodes : length t.nodes ≤ NODES_MAX
+  pub few_edge_nodes : count_by is_edge_node t.nodes ≤ EDGE_NODES_MAX
+  pub few_links : length t.links ≤ LINKS_MAX
   pub ids : AllPairs (λ a b. a.id ≢ b.id) t.nodes
   pub addresses : AllPairs DifferInAddress t.nodes
   pub links_hold : All (IsLink (length t.nodes)) t.links

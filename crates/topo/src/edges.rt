@@ -6,7 +6,7 @@ ghost use Rattle.topo.specs.Faults.{first_fault, edge_fault};
 use crate::faults::TopoFault;
 use crate::keys::Key;
 use crate::parts::EdgeSpec;
-use mn_base::limits::{BPS_MAX, BPS_MIN, LINK_LATENCY_US_MAX, LOSS_PPM_MAX, QUEUE_MAX, QUEUE_MIN};
+use mn_base::{is_bandwidth, is_latency, is_loss, is_queue_limit};
 use std::collections::BTreeMap;
 
 /// The first fault of the edges, whose ends are ids of the numbered nodes.
@@ -31,16 +31,16 @@ fn edge_fault(numbers: &BTreeMap<u64, u32>, e: u32, edge: &EdgeSpec) -> Option<T
     if !(numbers.contains_key(&edge.source) && numbers.contains_key(&edge.target)) {
         return Some(TopoFault::UnknownNode(e));
     }
-    if edge.bps < BPS_MIN || edge.bps > BPS_MAX {
+    if !is_bandwidth(edge.bps) {
         return Some(TopoFault::Range(e, Key::Bandwidth));
     }
-    if edge.latency_us > u64::from(LINK_LATENCY_US_MAX) {
+    if !is_latency(edge.latency_us) {
         return Some(TopoFault::Range(e, Key::Latency));
     }
-    if edge.queue < u64::from(QUEUE_MIN) || edge.queue > u64::from(QUEUE_MAX) {
+    if !is_queue_limit(edge.queue) {
         return Some(TopoFault::Range(e, Key::Queue));
     }
-    if edge.ppm > u64::from(LOSS_PPM_MAX) {
+    if !is_loss(edge.ppm) {
         return Some(TopoFault::Range(e, Key::Loss));
     }
     None

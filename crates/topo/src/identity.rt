@@ -7,6 +7,7 @@ ghost use Rattle.topo.specs.Faults.{first_fault, id_fault, address_fault};
 
 use crate::faults::TopoFault;
 use crate::parts::Node;
+use mn_base::limits::NODES_MAX;
 use mn_base::{NoMemory, Refusal};
 use std::alloc::Global;
 use std::collections::{BTreeMap, BTreeSet};
@@ -16,7 +17,7 @@ pub(crate) fn numbers_by_id(
     alloc: Global,
     nodes: &[Node],
 ) -> Result<BTreeMap<u64, u32>, Refusal<TopoFault>>
-    requires { length nodes.now ≤ 4096 }
+    requires { length nodes.now ≤ NODES_MAX }
     ensures numbers { IfOk result (λ m. (id : ℕ) → get nat_cmp m id ≡ node_with nodes.now id) }
     ensures distinct { OnOk result (first_fault (id_fault nodes.now) 0 nodes.now ≡ None) }
     ensures fault { IfErr result
@@ -35,7 +36,7 @@ pub(crate) fn numbers_by_id(
 
 /// The first node whose address an earlier node has.
 pub(crate) fn address_fault(alloc: Global, nodes: &[Node]) -> Result<Option<TopoFault>, NoMemory>
-    requires { length nodes.now ≤ 4096 }
+    requires { length nodes.now ≤ NODES_MAX }
     ensures { IfOk result (λ f. f ≡ first_fault (address_fault nodes.now) 0 nodes.now) }
 {
     let mut seen = BTreeSet::new(alloc);

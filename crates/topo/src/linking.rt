@@ -1,6 +1,7 @@
-ghost use Rattle.std.specs.Prelude.{◌≡◌, ◌≤◌, ◌++◌, Some, None, IfOk, OnOk, IfErr};
+ghost use Rattle.std.specs.Prelude.{◌≡◌, ◌++◌, Some, None, IfOk, OnOk, IfErr};
 ghost use Rattle.std.specs.Ordering.{nat_cmp};
 ghost use Rattle.std.specs.BTreeMap.{get};
+ghost use Rattle.mn_base.specs.Ranges.{AreInRange};
 ghost use Rattle.mn_base.specs.Refused.{IfFault};
 ghost use Rattle.topo.specs.Faults.{first_fault, edge_fault, link_count_fault};
 ghost use Rattle.topo.specs.Links.{link, links_of, links_of_edge};
@@ -44,9 +45,7 @@ fn push_links(
     edge: &EdgeSpec,
     directed: bool,
 ) -> Result<(), NoMemory>
-    requires latency_us { edge.now.latency_us ≤ 10000000 }
-    requires queue { edge.now.queue ≤ 1000 }
-    requires ppm { edge.now.ppm ≤ 1000000 }
+    requires { AreInRange edge.now.bps edge.now.latency_us edge.now.queue edge.now.ppm }
     ensures { OnOk result (links.new.items
         ≡ links.old.items ++ links_of_edge directed (get nat_cmp numbers.now) edge.now) }
 {
@@ -67,9 +66,7 @@ fn push_links(
 }
 
 fn link(edge: &EdgeSpec, from: u32, to: u32) -> Link
-    requires latency_us { edge.now.latency_us ≤ 10000000 }
-    requires queue { edge.now.queue ≤ 1000 }
-    requires ppm { edge.now.ppm ≤ 1000000 }
+    requires { AreInRange edge.now.bps edge.now.latency_us edge.now.queue edge.now.ppm }
     ensures { result ≡ link edge.now from to }
 {
     Link {

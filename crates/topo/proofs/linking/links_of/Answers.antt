@@ -5,17 +5,9 @@ use Rattle.topo.proofs.InRange.{faultless_at}
 use Rattle.topo.proofs.TooManyLinks.{too_many_links}
 use Rattle.topo.proofs.linking.links_of.Goals as goal
 
-pub push_links-requires-clause-latency_us : goal.push_links-requires-clause-latency_us
-push_links-requires-clause-latency_us c =
-    (faultless_at (get nat_cmp c.args.numbers.now) c.args.edges.now c.loop-edge.edge-index _ c.requires c.loop-edge-test.true).values.latency_us
-
-pub push_links-requires-clause-queue : goal.push_links-requires-clause-queue
-push_links-requires-clause-queue c =
-    (faultless_at (get nat_cmp c.args.numbers.now) c.args.edges.now c.loop-edge.edge-index _ c.requires c.loop-edge-test.true).values.queue_most
-
-pub push_links-requires-clause-ppm : goal.push_links-requires-clause-ppm
-push_links-requires-clause-ppm c =
-    (faultless_at (get nat_cmp c.args.numbers.now) c.args.edges.now c.loop-edge.edge-index _ c.requires c.loop-edge-test.true).values.ppm
+pub push_links-requires : goal.push_links-requires
+push_links-requires c =
+    (faultless_at (get nat_cmp c.args.numbers.now) c.args.edges.now c.loop-edge.edge-index _ c.requires c.loop-edge-test.true).values
 
 pub returns-then-len-gt-LINKS_MAX-clause-fault : goal.returns-then-len-gt-LINKS_MAX-clause-fault
 returns-then-len-gt-LINKS_MAX-clause-fault c =
