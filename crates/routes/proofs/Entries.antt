@@ -10,16 +10,17 @@ use Rattle.std.proofs.lemmas.Cmp.{ranked, tied_itself, nat_cmp_total, on_total, 
 use Rattle.std.proofs.lemmas.List.Elements.{All-head, All-tail}
 use Rattle.std.proofs.lemmas.Map.Lookups.{exact_unsigned}
 use Rattle.mn_base.specs.Among.{Among}
-use Rattle.routes.specs.Queue.{IsUpTo}
+use Rattle.routes.specs.NodeQueue.{Entry, IsUpTo}
 
-abbrev pub entry_cmp : ℕ × ℕ × ℕ → ℕ × ℕ × ℕ → Ordering
+-- by weight, then by number of arcs, then by node
+abbrev pub entry_cmp : Entry → Entry → Ordering
 entry_cmp j k = ordering_then (ordering_then (nat_cmp j.0 k.0) (nat_cmp j.1 k.1)) (nat_cmp j.2 k.2)
 
 entry_total : IsTotalOrder entry_cmp
 entry_total =
     then_total
-    (then_total (on_total (λ (t : ℕ × ℕ × ℕ). t.0) nat_cmp_total) (on_total (λ (t : ℕ × ℕ × ℕ). t.1) nat_cmp_total))
-    (on_total (λ (t : ℕ × ℕ × ℕ). t.2) nat_cmp_total)
+    (then_total (on_total (λ (t : Entry). t.0) nat_cmp_total) (on_total (λ (t : Entry). t.1) nat_cmp_total))
+    (on_total (λ (t : Entry). t.2) nat_cmp_total)
 
 -- ---- orders one after the other
 both_equal : (o p : Ordering) → ordering_then o p ≡ Equal → (o ≡ Equal) × (p ≡ Equal)
@@ -41,7 +42,7 @@ number_less : (m n : ℕ) → nat_cmp m n ≡ Less → m < n
 number_less m n less = ranked m n Less (sym less)
 
 -- ---- entries
-exact : (j k : ℕ × ℕ × ℕ) → entry_cmp j k ≡ Equal → j ≡ k
+exact : (j k : Entry) → entry_cmp j k ≡ Equal → j ≡ k
 exact j k tie =
     let outer = both_equal (ordering_then (nat_cmp j.0 k.0) (nat_cmp j.1 k.1)) (nat_cmp j.2 k.2) tie in
     let inner = both_equal (nat_cmp j.0 k.0) (nat_cmp j.1 k.1) outer.0 in
@@ -50,13 +51,13 @@ exact j k tie =
     let third = exact_unsigned j.2 k.2 outer.1 in
     ap (λ n. (n, j.1, j.2)) first ∙ ap (λ n. (k.0, n, j.2)) second ∙ ap (λ n. (k.0, k.1, n)) third
 
-itself : (k : ℕ × ℕ × ℕ) → entry_cmp k k ≡ Equal
+itself : (k : Entry) → entry_cmp k k ≡ Equal
 itself k = tied_itself entry_total k
 
-pub up_to_itself : (k : ℕ × ℕ × ℕ) → IsUpTo k k
+pub up_to_itself : (k : Entry) → IsUpTo k k
 up_to_itself k = inr (refl, omega arith)
 
-up_to_less : (j k : ℕ × ℕ × ℕ) → entry_cmp j k ≡ Less → IsUpTo j k
+up_to_less : (j k : Entry) → entry_cmp j k ≡ Less → IsUpTo j k
 up_to_less j k less =
     elim (one_less (ordering_then (nat_cmp j.0 k.0) (nat_cmp j.1 k.1)) (nat_cmp j.2 k.2) less) [
       | inl inner ↦
@@ -72,14 +73,14 @@ up_to_less j k less =
           inr (exact_unsigned j.0 k.0 both.0, omega arith)
     ]
 
-less_apart : (j k : ℕ × ℕ × ℕ) → entry_cmp j k ≡ Less → k ≢ j
+less_apart : (j k : Entry) → entry_cmp j k ≡ Less → k ≢ j
 less_apart j k less same =
-    let here : entry_cmp j j ≡ Less = subst (λ (e : ℕ × ℕ × ℕ). entry_cmp j e ≡ Less) same less in
+    let here : entry_cmp j j ≡ Less = subst (λ (e : Entry). entry_cmp j e ≡ Less) same less in
     let tie : entry_cmp j j ≡ Equal = itself j in
     let never : Equal ≡ Less = sym tie ∙ here in
     cc
 
-at_member : (P : ℕ × ℕ × ℕ → Type 0) (ks : List (ℕ × ℕ × ℕ)) (k : ℕ × ℕ × ℕ) → All P ks → Among k ks → P k
+at_member : (P : Entry → Type 0) (ks : List Entry) (k : Entry) → All P ks → Among k ks → P k
 at_member P [] k all there = absurd there
 at_member P (x ∷ xs) k all there =
     elim there [
@@ -88,7 +89,7 @@ at_member P (x ∷ xs) k all there =
     ]
 
 -- a set contains what stands among its keys
-contains_among : (k : ℕ × ℕ × ℕ) (ks : List (ℕ × ℕ × ℕ)) → list_any (is_at (entry_cmp k)) ks ≡ true → Among k ks
+contains_among : (k : Entry) (ks : List Entry) → list_any (is_at (entry_cmp k)) ks ≡ true → Among k ks
 contains_among k [] passes = absurd (false≢true passes)
 contains_among k (x ∷ xs) passes =
     elim (or_cases (is_at (entry_cmp k) x) (list_any (is_at (entry_cmp k)) xs) passes) [
@@ -96,10 +97,10 @@ contains_among k (x ∷ xs) passes =
       | inr later ↦ inr (contains_among k xs later)
     ]
 
-at_itself : (k : ℕ × ℕ × ℕ) → is_at (entry_cmp k) k ≡ true
+at_itself : (k : Entry) → is_at (entry_cmp k) k ≡ true
 at_itself k = ap is_eq (itself k)
 
-among_contains : (k : ℕ × ℕ × ℕ) (ks : List (ℕ × ℕ × ℕ)) → Among k ks → list_any (is_at (entry_cmp k)) ks ≡ true
+among_contains : (k : Entry) (ks : List Entry) → Among k ks → list_any (is_at (entry_cmp k)) ks ≡ true
 among_contains k [] there = absurd there
 among_contains k (x ∷ xs) there =
     elim there [
@@ -107,21 +108,21 @@ among_contains k (x ∷ xs) there =
           or_left
           (is_at (entry_cmp k) x)
           (list_any (is_at (entry_cmp k)) xs)
-          (subst (λ (e : ℕ × ℕ × ℕ). is_at (entry_cmp k) e ≡ true) (sym here) (at_itself k))
+          (subst (λ (e : Entry). is_at (entry_cmp k) e ≡ true) (sym here) (at_itself k))
       | inr later ↦ or_right (is_at (entry_cmp k) x) (list_any (is_at (entry_cmp k)) xs) (among_contains k xs later)
     ]
 
 -- ---- what the set's clauses say by members
-module _ (old new : List (ℕ × ℕ × ℕ)) (entry : ℕ × ℕ × ℕ) where
+module _ (old new : List Entry) (entry : Entry) where
   -- the test at the entry itself
-  hit : (k : ℕ × ℕ × ℕ) → entry ≡ k → is_at (entry_cmp entry) k ≡ true
-  hit k same = subst (λ (e : ℕ × ℕ × ℕ). is_at (entry_cmp entry) e ≡ true) same (at_itself entry)
+  hit : (k : Entry) → entry ≡ k → is_at (entry_cmp entry) k ≡ true
+  hit k same = subst (λ (e : Entry). is_at (entry_cmp entry) e ≡ true) same (at_itself entry)
 
-  was_hit : (k : ℕ × ℕ × ℕ) → is_at (entry_cmp entry) k ≡ true → entry ≡ k
+  was_hit : (k : Entry) → is_at (entry_cmp entry) k ≡ true → entry ≡ k
   was_hit k passes = exact entry k (is_equal (entry_cmp entry k) passes)
 
-  pub among_pushed : ((k : ℕ × ℕ × ℕ) → list_any (is_at (entry_cmp k)) new ≡ cond (is_at (entry_cmp entry) k) true (list_any (is_at (entry_cmp k)) old))
-      → (k : ℕ × ℕ × ℕ) → Among k new ↔ ((entry ≡ k) ⊎ Among k old)
+  pub among_pushed : ((k : Entry) → list_any (is_at (entry_cmp k)) new ≡ cond (is_at (entry_cmp entry) k) true (list_any (is_at (entry_cmp k)) old))
+      → (k : Entry) → Among k new ↔ ((entry ≡ k) ⊎ Among k old)
   among_pushed updates k = (
     λ among.
         elim (cases_Bool test) [
@@ -150,8 +151,8 @@ module _ (old new : List (ℕ × ℕ × ℕ)) (entry : ℕ × ℕ × ℕ) where
       had : Bool
       had = list_any (is_at (entry_cmp k)) old
 
-  pub among_removed : ((k : ℕ × ℕ × ℕ) → list_any (is_at (entry_cmp k)) new ≡ cond (is_at (entry_cmp entry) k) false (list_any (is_at (entry_cmp k)) old))
-      → (k : ℕ × ℕ × ℕ) → Among k new ↔ (Among k old × (k ≢ entry))
+  pub among_removed : ((k : Entry) → list_any (is_at (entry_cmp k)) new ≡ cond (is_at (entry_cmp entry) k) false (list_any (is_at (entry_cmp k)) old))
+      → (k : Entry) → Among k new ↔ (Among k old × (k ≢ entry))
   among_removed updates k = (
     λ among.
         elim (cases_Bool test) [
@@ -175,7 +176,7 @@ module _ (old new : List (ℕ × ℕ × ℕ)) (entry : ℕ × ℕ × ℕ) where
       had : Bool
       had = list_any (is_at (entry_cmp k)) old
 
-  pub among_popped : old ≡ entry ∷ new → All (λ k. entry_cmp entry k ≡ Less) new → (k : ℕ × ℕ × ℕ) → Among k new ↔ (Among k old × (k ≢ entry))
+  pub among_popped : old ≡ entry ∷ new → All (λ k. entry_cmp entry k ≡ Less) new → (k : Entry) → Among k new ↔ (Among k old × (k ≢ entry))
   among_popped removal above k = (
     λ later. (
       subst (λ ks. Among k ks) (sym removal) (inr later),
@@ -188,21 +189,21 @@ module _ (old new : List (ℕ × ℕ × ℕ)) (entry : ℕ × ℕ × ℕ) where
         ],
   )
 
-  pub least_popped : old ≡ entry ∷ new → All (λ k. entry_cmp entry k ≡ Less) new → (k : ℕ × ℕ × ℕ) → Among k old → IsUpTo entry k
+  pub least_popped : old ≡ entry ∷ new → All (λ k. entry_cmp entry k ≡ Less) new → (k : Entry) → Among k old → IsUpTo entry k
   least_popped removal above k there =
       elim (subst (λ ks. Among k ks) removal there) [
-        | inl here ↦ subst (λ (e : ℕ × ℕ × ℕ). IsUpTo entry e) here (up_to_itself entry)
+        | inl here ↦ subst (λ (e : Entry). IsUpTo entry e) here (up_to_itself entry)
         | inr later ↦ up_to_less entry k (at_member (λ q. entry_cmp entry q ≡ Less) new k above later)
       ]
 
 -- the same for what a pop answers
-module _ (old new : List (ℕ × ℕ × ℕ)) where
-  pub rest_of_pop : (r : Option (ℕ × ℕ × ℕ)) → IfSome r (λ first. old ≡ first ∷ new) → IfSome r (λ first. All (λ k. entry_cmp first k ≡ Less) new)
-      → IfSome r (λ first. (k : ℕ × ℕ × ℕ) → Among k new ↔ (Among k old × (k ≢ first)))
+module _ (old new : List Entry) where
+  pub rest_of_pop : (r : Option Entry) → IfSome r (λ first. old ≡ first ∷ new) → IfSome r (λ first. All (λ k. entry_cmp first k ≡ Less) new)
+      → IfSome r (λ first. (k : Entry) → Among k new ↔ (Among k old × (k ≢ first)))
   rest_of_pop None removal above = tt
   rest_of_pop (Some first) removal above = among_popped old new first removal above
 
-  pub least_of_pop : (r : Option (ℕ × ℕ × ℕ)) → IfSome r (λ first. old ≡ first ∷ new) → IfSome r (λ first. All (λ k. entry_cmp first k ≡ Less) new)
-      → IfSome r (λ first. (k : ℕ × ℕ × ℕ) → Among k old → IsUpTo first k)
+  pub least_of_pop : (r : Option Entry) → IfSome r (λ first. old ≡ first ∷ new) → IfSome r (λ first. All (λ k. entry_cmp first k ≡ Less) new)
+      → IfSome r (λ first. (k : Entry) → Among k old → IsUpTo first k)
   least_of_pop None removal above = tt
   least_of_pop (Some first) removal above = least_popped old new first removal above

@@ -7,9 +7,9 @@ use Rattle.std.proofs.lemmas.List.Elements.{All-head, All-tail}
 use Rattle.mn_base.specs.Among.{Among}
 use Rattle.mn_base.proofs.Members.{Among-append, Among-append-left, Among-last}
 use Rattle.routes.specs.declared.graph.Arc.{Arc}
-use Rattle.routes.specs.Digraph.{Digraph, IsArcAmong}
+use Rattle.routes.specs.GraphView.{GraphView, IsWithinLimits}
 use Rattle.routes.specs.Walk.{no_arc, arc_at}
-use Rattle.routes.specs.Search.{IsIncoming}
+use Rattle.routes.specs.Search.{IsInto, IsIncoming, lists_of}
 
 -- the row has exactly the first n arcs into u
 pub record IsIntoBefore (arcs : List Arc) (n u : ℕ) (row : List ℕ) : Type 0 where
@@ -18,13 +18,9 @@ pub record IsIntoBefore (arcs : List Arc) (n u : ℕ) (row : List ℕ) : Type 0 
   pub to : (e : ℕ) → Among e row → (arc_at arcs e).to ≡ u
 
 -- each row has the first n arcs into its node
-pub record HasFirst (g : Digraph) (n : ℕ) (rows : List (List ℕ)) : Type 0 where
+pub record HasFirst (g : GraphView) (n : ℕ) (rows : List (List ℕ)) : Type 0 where
   pub len : length rows ≡ g.nodes
   pub rows_are : (u : ℕ) → u < g.nodes → IsIntoBefore g.arcs n u (get_or rows u [])
-
--- the lists of a list of vectors
-abbrev pub lists_of : List (Vec ℕ Global) → List (List ℕ)
-lists_of rows = map (λ (row : Vec ℕ Global). row.items) rows
 
 empty_at : (rows : List (Vec ℕ Global)) → All (λ (row : Vec ℕ Global). row.items ≡ []) rows → (u : ℕ) → get_or (lists_of rows) u [] ≡ []
 empty_at [] all u = refl
@@ -35,7 +31,7 @@ length-lists_of : (rows : List (Vec ℕ Global)) → length (lists_of rows) ≡ 
 length-lists_of [] = refl
 length-lists_of (r ∷ rs) = ap suc (length-lists_of rs)
 
-pub none_yet : (g : Digraph) (rows : List (Vec ℕ Global)) → length rows ≡ g.nodes → All (λ (row : Vec ℕ Global). row.items ≡ []) rows
+pub none_yet : (g : GraphView) (rows : List (Vec ℕ Global)) → length rows ≡ g.nodes → All (λ (row : Vec ℕ Global). row.items ≡ []) rows
     → HasFirst g 0 (lists_of rows)
 none_yet g rows len all =
     record {
@@ -48,7 +44,7 @@ none_yet g rows len all =
     }
 
 -- the arc n goes to the end of its row
-pub one_more : (g : Digraph) (n : ℕ) (rows rows' : List (List ℕ)) → HasFirst g n rows → (arc_at g.arcs n).to < g.nodes
+pub one_more : (g : GraphView) (n : ℕ) (rows rows' : List (List ℕ)) → HasFirst g n rows → (arc_at g.arcs n).to < g.nodes
     → rows' ≡ set rows (arc_at g.arcs n).to (get_or rows (arc_at g.arcs n).to [] ++ n ∷ [])
     → HasFirst g (n + 1) rows'
 one_more g n rows rows' on low is =
@@ -117,7 +113,7 @@ one_more g n rows rows' on low is =
           to = was.to;
         }
 
-pub all_rows : (g : Digraph) (n : ℕ) (rows : List (List ℕ)) → HasFirst g n rows → n ≡ length g.arcs → IsIncoming g rows
+pub all_rows : (g : GraphView) (n : ℕ) (rows : List (List ℕ)) → HasFirst g n rows → n ≡ length g.arcs → IsIncoming g rows
 all_rows g n rows on done =
     record {
       len = on.len;
@@ -130,35 +126,57 @@ all_rows g n rows on done =
           };
     }
 
--- the same in the code's lists
-pub pushed : (g : Digraph) (n : ℕ) (rows : List (Vec ℕ Global)) (arcs : List Arc) (row row' : Vec ℕ Global)
-    → arcs ≡ g.arcs → All (IsArcAmong g.nodes) g.arcs → HasFirst g n (lists_of rows) → n < length arcs
-    → row ≡ get_or rows (arc_at arcs n).to row → row'.items ≡ row.items ++ n ∷ []
-    → HasFirst g (n + 1) (lists_of (set rows (arc_at arcs n).to row'))
-pushed g n rows arcs row row' are limits on below read is =
+-- ---- the same in the code's lists
+-- the number n is pushed to the row of the node that the arc n leads to
+pub record Pushes (g : GraphView) (arcs : List Arc) (n : ℕ) (rows : List (Vec ℕ Global)) (row row' : Vec ℕ Global) : Type 0 where
+  pub arcs_are : arcs ≡ g.arcs
+  pub limits : IsWithinLimits g
+  pub on : HasFirst g n (lists_of rows)
+  pub below : n < length arcs
+  pub read : row ≡ get_or rows (arc_at arcs n).to row
+  pub pushed : row'.items ≡ row.items ++ n ∷ []
+
+pub one_arc_more : {g : GraphView} {arcs : List Arc} {n : ℕ} {rows : List (Vec ℕ Global)} {row row' : Vec ℕ Global}
+    → Pushes g arcs n rows row row' → HasFirst g (n + 1) (lists_of (set rows (arc_at arcs n).to row'))
+one_arc_more {g} {arcs} {n} {rows} {row} {row'} step =
     subst
     (λ (as' : List Arc). HasFirst g (n + 1) (lists_of (set rows (arc_at as' n).to row')))
-    (sym are)
+    (sym step.arcs_are)
     (one_more
     g
     n
     (lists_of rows)
     (lists_of (set rows (arc_at g.arcs n).to row'))
-    on
+    step.on
     low
     (map-set (λ (r : Vec ℕ Global). r.items) rows (arc_at g.arcs n).to row'
-    ∙ ap (λ (ns : List ℕ). set (lists_of rows) (arc_at g.arcs n).to ns) (is ∙ ap (λ (ns : List ℕ). ns ++ n ∷ []) (sym had))))
+    ∙ ap (λ (ns : List ℕ). set (lists_of rows) (arc_at g.arcs n).to ns) (step.pushed ∙ ap (λ (ns : List ℕ). ns ++ n ∷ []) (sym had))))
   where
     low : (arc_at g.arcs n).to < g.nodes
-    low = (limits n no_arc (let same = ap length are in omega arith)).to
+    low = (step.limits.arcs n no_arc (let below = step.below in let same = ap length step.arcs_are in omega arith)).to
 
     in_rows : (arc_at g.arcs n).to < length rows
-    in_rows = let len = on.len in let same = length-lists_of rows in let place = low in omega arith
-
-    read_there : row ≡ get_or rows (arc_at g.arcs n).to row
-    read_there = subst (λ (as' : List Arc). row ≡ get_or rows (arc_at as' n).to row) are read
+    in_rows = let len = step.on.len in let same = length-lists_of rows in let place = low in omega arith
 
     had : get_or (lists_of rows) (arc_at g.arcs n).to [] ≡ row.items
     had =
         get_or-map (λ (r : Vec ℕ Global). r.items) rows (arc_at g.arcs n).to row [] in_rows
-        ∙ ap (λ (r : Vec ℕ Global). r.items) (sym read_there)
+        ∙ ap
+        (λ (r : Vec ℕ Global). r.items)
+        (sym (subst (λ (as' : List Arc). row ≡ get_or rows (arc_at as' n).to row) step.arcs_are step.read))
+
+-- the row that is read has the arcs into its node
+pub row_into : {g : GraphView} (rows : List (Vec ℕ Global)) (u : ℕ) (row : Vec ℕ Global) → IsIncoming g (lists_of rows) → u < g.nodes
+    → row ≡ get_or rows u row → IsInto g.arcs u row.items
+row_into {g} rows u row incoming low read =
+    subst
+    (λ (ns : List ℕ). IsInto g.arcs u ns)
+    (get_or-map
+    (λ (r : Vec ℕ Global). r.items)
+    rows
+    u
+    row
+    []
+    (let len = incoming.len in let same = length-lists_of rows in omega arith)
+    ∙ ap (λ (r : Vec ℕ Global). r.items) (sym read))
+    (incoming.rows_are u low)

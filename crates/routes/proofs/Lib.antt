@@ -1,10 +1,13 @@
 pub mod Entries
 pub mod IncomingRows
+pub mod Lists
 pub mod NoNodeTwice
+pub mod Offering
 pub mod OneLeastWalk
 pub mod QueueSteps
 pub mod Relaxing
 pub mod SearchSteps
-pub mod Searching
+pub mod Settling
+pub mod Starting
 pub mod Table
 pub mod Way

@@ -1,12 +1,15 @@
 -- A least walk meets no node twice: what lies between two visits could be cut out, which lessens the key.
-use Rattle.std.proofs.Common.{◌≡◌, ℕ, suc, ◌<◌, ◌≤◌, inl, inr, false, true, eqb, List, [], ◌∷◌, length, refl, sym, ap, subst, arith}
-use Rattle.std.specs.List.{All, AllByRecursion, IsDistinct, list_any}
+use Rattle.std.proofs.Common.{◌≡◌, ◌≢◌, ℕ, suc, ◌<◌, ◌≤◌, inl, inr, false, true, eqb, List, [], ◌∷◌, length, refl, sym, ap, subst, arith}
+use Rattle.std.specs.List.{All, AllPairs, AllByRecursion, IsDistinct, list_any}
 use Rattle.std.proofs.lemmas.Bool.{ne_eqb, eqb-true, false≢true, or_cases}
+use Rattle.std.proofs.lemmas.Bool.Decides.{Decides-eqb}
+use Rattle.std.proofs.lemmas.List.Elements.{All-cons, All-nil}
 use Rattle.std.proofs.lemmas.Map.Keys.{IsDistinct-cons}
+use Rattle.std.proofs.lemmas.Map.Made.{AllPairs-from_IsDistinct}
 use Rattle.std.proofs.lemmas.Map.Steps.{length-le_from_distinct_below}
 use Rattle.mn_base.specs.Among.{Among}
 use Rattle.routes.specs.declared.graph.Arc.{Arc}
-use Rattle.routes.specs.Digraph.{IsArcAmong}
+use Rattle.routes.specs.GraphView.{IsArcAmong}
 use Rattle.routes.specs.Walk.{no_arc, arc_at, IsWalk, weight_of, nodes_of}
 use Rattle.routes.specs.LeastWalk.{IsNoGreater, IsLeastWalk}
 
@@ -14,6 +17,12 @@ use Rattle.routes.specs.LeastWalk.{IsNoGreater, IsLeastWalk}
 apart : (x : ℕ) (xs : List ℕ) → (Among x xs → ⊥) → AllByRecursion (λ y. eqb x y ≡ false) xs
 apart x [] absent = tt
 apart x (y ∷ ys) absent = (ne_eqb x y (λ same. absent (inl (sym same))), apart x ys (λ later. absent (inr later)))
+
+-- the arcs of a walk are arcs of the graph
+pub arcs_named : (arcs : List Arc) (a b : ℕ) (es : List ℕ) → IsWalk arcs a b es → All (λ e. e < length arcs) es
+arcs_named arcs a b [] walk = All-nil (λ e. e < length arcs)
+arcs_named arcs a b (e ∷ es) walk =
+    All-cons (λ f. f < length arcs) e es walk.0 (arcs_named arcs (arc_at arcs e).to b es walk.2)
 
 module _ (arcs : List Arc) (b : ℕ) where
   -- a walk to b, no heavier and no longer than es
@@ -90,21 +99,21 @@ module _ (arcs : List Arc) (b : ℕ) where
   not_back : (a e : ℕ) (es : List ℕ) → IsLeastWalk arcs a b (e ∷ es) → Among a (nodes_of arcs (arc_at arcs e).to es) → ⊥
   not_back a e es own met = no_shorter a e es own (rest_from a (arc_at arcs e).to es own.walk.2 met)
 
-  pub no_node_twice : (a : ℕ) (es : List ℕ) → IsLeastWalk arcs a b es → IsDistinct eqb (nodes_of arcs a es)
+  distinct_nodes : (a : ℕ) (es : List ℕ) → IsLeastWalk arcs a b es → IsDistinct eqb (nodes_of arcs a es)
   unfolding IsDistinct
-  no_node_twice a [] own = IsDistinct-cons eqb a [] tt tt
-  no_node_twice a (e ∷ es) own =
+  distinct_nodes a [] own = IsDistinct-cons eqb a [] tt tt
+  distinct_nodes a (e ∷ es) own =
       IsDistinct-cons
       eqb
       a
       (nodes_of arcs (arc_at arcs e).to es)
       (apart a (nodes_of arcs (arc_at arcs e).to es) (not_back a e es own))
-      (no_node_twice (arc_at arcs e).to es (rest_least a e es own))
+      (distinct_nodes (arc_at arcs e).to es (rest_least a e es own))
 
-  pub no_arc_twice : (a : ℕ) (es : List ℕ) → IsLeastWalk arcs a b es → IsDistinct eqb es
+  distinct_arcs : (a : ℕ) (es : List ℕ) → IsLeastWalk arcs a b es → IsDistinct eqb es
   unfolding IsDistinct
-  no_arc_twice a [] own = tt
-  no_arc_twice a (e ∷ es) own =
+  distinct_arcs a [] own = tt
+  distinct_arcs a (e ∷ es) own =
       IsDistinct-cons
       eqb
       e
@@ -115,7 +124,14 @@ module _ (arcs : List Arc) (b : ℕ) where
       (λ x. Among x (nodes_of arcs (arc_at arcs e).to es))
       own.walk.1
       (start_met e (arc_at arcs e).to es own.walk.2 again))))
-      (no_arc_twice (arc_at arcs e).to es (rest_least a e es own))
+      (distinct_arcs (arc_at arcs e).to es (rest_least a e es own))
+
+  -- the same in std's words
+  pub no_node_twice : (a : ℕ) (es : List ℕ) → IsLeastWalk arcs a b es → AllPairs (λ v w. v ≢ w) (nodes_of arcs a es)
+  no_node_twice a es own = AllPairs-from_IsDistinct Decides-eqb (nodes_of arcs a es) (distinct_nodes a es own)
+
+  pub no_arc_twice : (a : ℕ) (es : List ℕ) → IsLeastWalk arcs a b es → AllPairs (λ e f. e ≢ f) es
+  no_arc_twice a es own = AllPairs-from_IsDistinct Decides-eqb es (distinct_arcs a es own)
 
   -- each node that a walk meets is a node of the graph
   within : (nodes : ℕ) → All (IsArcAmong nodes) arcs → (a : ℕ) (es : List ℕ) → a < nodes → IsWalk arcs a b es
@@ -138,6 +154,6 @@ module _ (arcs : List Arc) (b : ℕ) where
 
   pub short : (nodes : ℕ) (a : ℕ) (es : List ℕ) → All (IsArcAmong nodes) arcs → a < nodes → IsLeastWalk arcs a b es → length es < nodes
   short nodes a es all low own =
-      let most = length-le_from_distinct_below (nodes_of arcs a es) nodes (no_node_twice a es own) (within nodes all a es low own.walk) in
+      let most = length-le_from_distinct_below (nodes_of arcs a es) nodes (distinct_nodes a es own) (within nodes all a es low own.walk) in
       let is = length-nodes_of a es in
       omega arith

@@ -2,9 +2,10 @@
 use Rattle.std.proofs.Common.{◌≡◌, ◌≢◌, ℕ, ◌+◌, ◌*◌, ◌≤◌, inl, inr, Bool, true, false, List, [], ◌∷◌, Option, Some, None, refl, sym, subst, ◌∙◌, arith}
 use Rattle.std.proofs.lemmas.Bool.{cases_eq, cases_lt, true≢false}
 use Rattle.std.proofs.lemmas.Option.{none-some}
+use Rattle.mn_base.specs.declared.limits.TheConstants.{PIPE_LATENCY_US_MAX}
 use Rattle.routes.specs.declared.graph.Arc.{Arc}
 use Rattle.routes.specs.declared.label.Label.{Label}
-use Rattle.routes.specs.Digraph.{Digraph, IsWithinLimits}
+use Rattle.routes.specs.GraphView.{GraphView, IsWithinLimits}
 use Rattle.routes.specs.Walk.{no_arc, arc_at}
 use Rattle.routes.specs.Table.{home, offer_of, IsNoFarther, IsNoWorse, HasNoWorse, IsTable}
 use Rattle.routes.specs.Search.{IsLedBySettled, IsInto, IsSearch}
@@ -37,6 +38,36 @@ no_worse_trans a b c ab bc =
                         elim tie.1 [
                           | inl more ↦ inl (let h = level.0 in omega arith)
                           | inr even ↦ inr (level.0 ∙ even.0, (let h = level.1 in let k = even.1 in omega arith))
+                        ]
+                  ],
+                )
+          ]
+    ]
+
+-- of two labels one is no worse than the other
+pub no_worse_otherwise : (a b : Label) → (IsNoWorse a b → ⊥) → IsNoWorse b a
+no_worse_otherwise a b worse =
+    elim (cases_lt b.weight a.weight) [
+      | inl lighter ↦ inl lighter
+      | inr up ↦
+          elim (cases_eq a.weight b.weight) [
+            | inr apart ↦ absurd (worse (inl (omega arith)))
+            | inl even ↦
+                inr (
+                  sym even,
+                  elim (cases_lt b.hops a.hops) [
+                    | inl fewer ↦ inl fewer
+                    | inr more ↦
+                        elim (cases_eq a.hops b.hops) [
+                          | inr apart ↦ absurd (worse (inr (even, inl (omega arith))))
+                          | inl level ↦
+                              inr (
+                                sym level,
+                                elim (cases_lt b.next a.next) [
+                                  | inl less ↦ omega arith
+                                  | inr least ↦ absurd (worse (inr (even, inr (level, least))))
+                                ],
+                              )
                         ]
                   ],
                 )
@@ -85,7 +116,7 @@ pub record IsPut {X : Type 0} (label label' : ℕ → X) (v : ℕ) (c : X) : Typ
   pub here : label' v ≡ c
   pub other : (w : ℕ) → w ≢ v → label' w ≡ label w
 
-module _ (g : Digraph) (goal : ℕ) (limits : IsWithinLimits g) where
+module _ (g : GraphView) (goal : ℕ) (limits : IsWithinLimits g) where
   -- an arc whose start has no worse label need not be looked at
   pub kept : (label : ℕ → Option Label) (settled : ℕ → Bool) (count : ℕ) (last : Label) (e : ℕ) (rest : List ℕ)
       → IsSearch g goal label settled count last (e ∷ rest)
@@ -280,7 +311,7 @@ module _ (g : Digraph) (goal : ℕ) (limits : IsWithinLimits g) where
               (λ away old. on.few v l old)
               has;
           light = λ v l has. each
-              (λ w (k : Label). k.weight ≤ k.hops * 40950000000)
+              (λ w (k : Label). k.weight ≤ k.hops * PIPE_LATENCY_US_MAX)
               (let before = on.light (arc_at g.arcs e).to last pend.to in
               let arc = (limits.arcs e no_arc pend.below).weight in
               omega arith)
@@ -370,7 +401,7 @@ module _ (g : Digraph) (goal : ℕ) (limits : IsWithinLimits g) where
         behind = λ v l done has. absurd (true≢false (sym done ∙ none v));
         ahead = λ v l waits has. of_home v l (λ k. IsNoFarther home k) (inr (refl, omega arith)) has;
         few = λ v l has. of_home v l (λ k. k.hops ≤ 0) (omega arith) has;
-        light = λ v l has. of_home v l (λ k. k.weight ≤ k.hops * 40950000000) (omega arith) has;
+        light = λ v l has. of_home v l (λ k. k.weight ≤ k.hops * PIPE_LATENCY_US_MAX) (omega arith) has;
       }
     where
       -- each label is the destination's

@@ -1,20 +1,19 @@
 -- What follows of every least walk from the definitions alone.
-use Rattle.std.specs.Prelude.{◌≡◌, ℕ, ◌<◌, List, length, nat_eq}
-use Rattle.std.specs.List.{All, IsDistinct}
+use Rattle.std.specs.Prelude.{◌≡◌, ◌≢◌, ℕ, ◌<◌, List, length, All, AllPairs}
 use Rattle.routes.specs.declared.graph.Arc.{Arc}
-use Rattle.routes.specs.Digraph.{IsArcAmong}
+use Rattle.routes.specs.GraphView.{IsArcAmong}
 use Rattle.routes.specs.Walk.{nodes_of}
 use Rattle.routes.specs.LeastWalk.{IsLeastWalk}
 
 -- a least walk meets no node twice
 abbrev pub LeastWalksMeetNoNodeTwice : Type 0
 LeastWalksMeetNoNodeTwice = (arcs : List Arc) (a b : ℕ) (es : List ℕ)
-    → IsLeastWalk arcs a b es → IsDistinct nat_eq (nodes_of arcs a es)
+    → IsLeastWalk arcs a b es → AllPairs (λ v w. v ≢ w) (nodes_of arcs a es)
 
 -- a least walk has no arc twice
 abbrev pub LeastWalksHaveNoArcTwice : Type 0
 LeastWalksHaveNoArcTwice = (arcs : List Arc) (a b : ℕ) (es : List ℕ)
-    → IsLeastWalk arcs a b es → IsDistinct nat_eq es
+    → IsLeastWalk arcs a b es → AllPairs (λ e f. e ≢ f) es
 
 -- a least walk has fewer arcs than the graph has nodes
 abbrev pub LeastWalksAreShort : Type 0

@@ -1,7 +1,9 @@
-pub mod Digraph
+pub mod GraphView
 pub mod Laws
 pub mod LeastWalk
-pub mod Queue
+pub mod NodeQueue
+pub mod RoutesView
 pub mod Search
+pub mod Searching
 pub mod Table
 pub mod Walk

@@ -1,10 +1,12 @@
 -- A search on its way. Nodes are settled from the destination on, nearest first; a node that isn't settled has the best label that
 -- the arcs into settled nodes offer it.
-use Rattle.std.specs.Prelude.{◌≡◌, ◌≢◌, ℕ, ◌*◌, ◌<◌, ◌≤◌, ◌⊎◌, Bool, true, false, List, [], length, Option, Some, slice_index_or, slice_set, count_by}
+use Rattle.std.specs.Prelude.{◌≡◌, ◌≢◌, ℕ, ◌*◌, ◌<◌, ◌≤◌, ◌⊎◌, Bool, true, false, List, [], length, map, Option, Some, Vec, slice_index_or, count_by}
+use Rattle.mn_base.specs.declared.limits.TheConstants.{PIPE_LATENCY_US_MAX}
 use Rattle.mn_base.specs.Among.{Among}
 use Rattle.routes.specs.declared.graph.Arc.{Arc}
 use Rattle.routes.specs.declared.label.Label.{Label}
-use Rattle.routes.specs.Digraph.{Digraph, IsWithinLimits}
+use Rattle.routes.specs.GraphView.{GraphView}
+use Rattle.routes.specs.NodeQueue.{Entry}
 use Rattle.routes.specs.Walk.{arc_at}
 use Rattle.routes.specs.Table.{label_of, home, offer_of, IsNoFarther, IsNoWorse, IsLedBy, HasNoWorse}
 
@@ -41,7 +43,7 @@ pub record IsInto (arcs : List Arc) (u : ℕ) (row : List ℕ) : Type 0 where
 
 -- last is the label of the node that was settled last; all settled nodes are no farther than it, and all others that have a
 -- label no nearer; the pending arcs are still to be looked at
-pub record IsSearch (g : Digraph) (destination : ℕ) (label : ℕ → Option Label) (settled : ℕ → Bool) (count : ℕ) (last : Label)
+pub record IsSearch (g : GraphView) (destination : ℕ) (label : ℕ → Option Label) (settled : ℕ → Bool) (count : ℕ) (last : Label)
     (pending : List ℕ) : Type 0 where
   pub at_home : label destination ≡ Some home
   pub led : (v : ℕ) (l : Label) → label v ≡ Some l → v ≢ destination → IsLedBySettled g.arcs label settled v l
@@ -53,55 +55,29 @@ pub record IsSearch (g : Digraph) (destination : ℕ) (label : ℕ → Option La
   pub behind : (v : ℕ) (l : Label) → settled v ≡ true → label v ≡ Some l → IsNoFarther l last
   pub ahead : (v : ℕ) (l : Label) → settled v ≡ false → label v ≡ Some l → IsNoFarther last l
   pub few : (v : ℕ) (l : Label) → label v ≡ Some l → l.hops ≤ count
-  pub light : (v : ℕ) (l : Label) → label v ≡ Some l → l.weight ≤ l.hops * 40950000000
+  pub light : (v : ℕ) (l : Label) → label v ≡ Some l → l.weight ≤ l.hops * PIPE_LATENCY_US_MAX
 
--- the place of a node with this label in the queue: weight, number of arcs, node
-abbrev pub entry_of : Label → ℕ → ℕ × ℕ × ℕ
+-- the entry of a node with this label: weight, number of arcs, node
+abbrev pub entry_of : Label → ℕ → Entry
 entry_of l v = (l.weight, l.hops, v)
 
 -- an entry of the queue stands for a node that has a label and isn't settled
-pub record IsEntry (label : ℕ → Option Label) (settled : ℕ → Bool) (k : ℕ × ℕ × ℕ) : Type 0 where
+pub record IsEntry (label : ℕ → Option Label) (settled : ℕ → Bool) (k : Entry) : Type 0 where
   pub own : Label
   pub has : label k.2 ≡ Some own
-  pub waiting : settled k.2 ≡ false
+  pub unsettled : settled k.2 ≡ false
   pub is : k ≡ entry_of own k.2
 
 -- the queue has exactly the nodes that have a label and aren't settled
-pub record IsQueue (label : ℕ → Option Label) (settled : ℕ → Bool) (queue : List (ℕ × ℕ × ℕ)) : Type 0 where
+pub record IsNodeQueue (label : ℕ → Option Label) (settled : ℕ → Bool) (queue : List Entry) : Type 0 where
   pub waits : (v : ℕ) (l : Label) → label v ≡ Some l → settled v ≡ false → Among (entry_of l v) queue
-  pub stands : (k : ℕ × ℕ × ℕ) → Among k queue → IsEntry label settled k
-
--- what is known at each step
-pub record IsSearching (g : Digraph) (destination : ℕ) (labels : List (Option Label)) (settled : List Bool)
-    (queue : List (ℕ × ℕ × ℕ)) (last : Label) (pending : List ℕ) : Type 0 where
-  pub limits : IsWithinLimits g
-  pub labels_len : length labels ≡ g.nodes
-  pub settled_len : length settled ≡ g.nodes
-  pub search : IsSearch g destination (label_of labels) (settled_of settled) (settled_count settled) last pending
-  pub queue_is : IsQueue (label_of labels) (settled_of settled) queue
-
--- the node v with the label l is settled: it had waited, and no node that waited is nearer
-pub record Settles (labels : List (Option Label)) (settled settled' : List Bool) (v : ℕ) (l : Label) : Type 0 where
-  pub has : label_of labels v ≡ Some l
-  pub waited : settled_of settled v ≡ false
-  pub nearest : (w : ℕ) (m : Label) → label_of labels w ≡ Some m → settled_of settled w ≡ false → IsNoFarther l m
-  pub now : settled' ≡ slice_set settled v true
-
--- after the offer c to the node v: it is settled or has a label that is no worse, or gets the label c, which is no worse
--- than what it had
-abbrev pub Offers : List (Option Label) → List (Option Label) → List Bool → ℕ → Label → Type 0
-Offers labels labels' settled v c =
-    ((labels' ≡ labels) × ((settled_of settled v ≡ true) ⊎ HasNoWorse (label_of labels) v c))
-    ⊎ ((labels' ≡ slice_set labels v (Some c)) × (settled_of settled v ≡ false)
-    × ((l : Label) → label_of labels v ≡ Some l → IsNoWorse c l))
-
--- no arc is pending
-pub record IsAtRest (g : Digraph) (destination : ℕ) (labels : List (Option Label)) (settled : List Bool)
-    (queue : List (ℕ × ℕ × ℕ)) : Type 0 where
-  pub last : Label
-  pub on : IsSearching g destination labels settled queue last []
+  pub stands : (k : Entry) → Among k queue → IsEntry label settled k
 
 -- for each node the arcs into it
-pub record IsIncoming (g : Digraph) (rows : List (List ℕ)) : Type 0 where
+pub record IsIncoming (g : GraphView) (rows : List (List ℕ)) : Type 0 where
   pub len : length rows ≡ g.nodes
   pub rows_are : (u : ℕ) → u < g.nodes → IsInto g.arcs u (slice_index_or rows u [])
+
+-- the lists of a list of vectors
+abbrev pub lists_of : {A : Type 0} → List (Vec ℕ A) → List (List ℕ)
+lists_of {A} rows = map (λ (row : Vec ℕ A). row.items) rows

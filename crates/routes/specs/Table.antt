@@ -3,7 +3,7 @@
 use Rattle.std.specs.Prelude.{◌≡◌, ◌≢◌, ℕ, ◌+◌, ◌<◌, ◌≤◌, ◌⊎◌, List, length, Option, Some, None, slice_index_or}
 use Rattle.routes.specs.declared.graph.Arc.{Arc}
 use Rattle.routes.specs.declared.label.Label.{Label}
-use Rattle.routes.specs.Digraph.{IsWithinLimits}
+use Rattle.routes.specs.GraphView.{GraphView, IsWithinLimits}
 use Rattle.routes.specs.Walk.{arc_at}
 
 -- what the table has of a node
@@ -48,8 +48,9 @@ pub record IsTable (arcs : List Arc) (destination : ℕ) (label : ℕ → Option
   pub settled : (e : ℕ) (m : Label) → e < length arcs → label (arc_at arcs e).to ≡ Some m
       → HasNoWorse label (arc_at arcs e).from (offer_of arcs e m)
 
--- what routes keep: a graph within its limits, and a table of it that has a place for each node
-pub record IsRoutes (arcs : List Arc) (labels : List (Option Label)) (destination : ℕ) : Type 0 where
-  pub graph : IsWithinLimits (record { nodes = length labels; arcs = arcs })
-  pub place : destination < length labels
-  pub table : IsTable arcs destination (label_of labels)
+-- what routes keep: a graph within its limits, and a table of it that has a label or none for each node
+pub record IsRoutes (g : GraphView) (labels : List (Option Label)) (destination : ℕ) : Type 0 where
+  pub limits : IsWithinLimits g
+  pub len : length labels ≡ g.nodes
+  pub place : destination < g.nodes
+  pub table : IsTable g.arcs destination (label_of labels)

@@ -1,4 +1,4 @@
--- Walks in a directed graph: lists of arc numbers, each the place of its arc in the graph's list of arcs.
+-- Walks in a directed graph: lists of arc numbers, each the index of its arc in the graph's list of arcs.
 use Rattle.std.specs.Prelude.{◌≡◌, ℕ, ◌+◌, ◌<◌, List, [], ◌∷◌, length, slice_index_or}
 use Rattle.routes.specs.declared.graph.Arc.{Arc}
 

@@ -1,8 +1,8 @@
-ghost use Rattle.std.specs.Prelude.{◌≡◌, ℕ, ◌<◌, ◌≤◌, ◌↔◌, List, length, IsTrue, IsNone, IfSome, IfOk};
+ghost use Rattle.std.specs.Prelude.{◌≡◌, ◌≢◌, ℕ, ◌<◌, ◌↔◌, List, length, IsTrue, IsNone, IfSome, IfOk, All, AllPairs};
 ghost use Rattle.routes.specs.Walk.{IsWalk};
-ghost use Rattle.routes.specs.LeastWalk.{IsNoGreater};
+ghost use Rattle.routes.specs.LeastWalk.{IsNoGreater, IsLeastWalk};
 
-use crate::graph::{Arc, Graph};
+use crate::graph::Graph;
 use crate::incoming::Incoming;
 use crate::label::Label;
 use crate::search::Search;
@@ -15,50 +15,64 @@ use std::marker::Model;
 /// Walks are compared by the sum of their weights, then by their number of arcs, then by their lists of arc numbers in
 /// lexicographic order. Each node keeps only the first arc of its walk: what follows is the walk of that arc's end.
 #[derive(Debug, Drop)]
-pub struct Routes {
-    arcs: Vec<Arc>,
+pub struct Routes<'g> {
+    graph: &'g Graph,
     labels: Vec<Option<Label>>,
     destination: u32,
 }
 
-impl Model for Routes {
-    ghost use Rattle.std.specs.Prelude.{length};
-    ghost use Rattle.routes.specs.Digraph.{Digraph, Toward};
+impl<'g> Model for Routes<'g> {
+    ghost use Rattle.routes.specs.RoutesView.{RoutesView};
     ghost use Rattle.routes.specs.Table.{IsRoutes};
 
-    ghost Value = { Toward };
+    ghost Value = { RoutesView };
 
-    ghost view = { λ r. record { graph = record { nodes = length r.labels.items; arcs = r.arcs.items }; destination = r.destination } };
+    ghost view = { λ r. record { graph = r.graph.now; destination = r.destination } };
 
-    ghost invariant = { λ r. IsRoutes r.arcs.items r.labels.items r.destination };
+    ghost invariant = { λ r. IsRoutes r.graph.now r.labels.items r.destination };
 }
 
-impl Routes {
-    /// The routes of `graph` to one of its nodes.
-    ///
-    /// Nodes are settled from the destination on, nearest first (Dijkstra 1959). Of two walks of equal weight and equally
-    /// many arcs a node keeps the one with the lesser first arc: what follows their first arcs was compared before, so lists
-    /// of arcs are compared without being built. It takes time in O((nodes + arcs) · log nodes).
-    pub fn toward(alloc: Global, graph: &Graph, destination: u32) -> Result<Routes, NoMemory>
+impl<'g> Routes<'g> {
+    /// The routes of `graph` to one of its nodes. For many destinations make the graph's [`Incoming`] once, and take
+    /// [`Routes::by_incoming`].
+    pub fn toward(alloc: Global, graph: &'g Graph, destination: u32) -> Result<Routes<'g>, NoMemory>
         requires { destination < graph.now.nodes }
         ensures graph { IfOk result (λ routes. routes.graph ≡ graph.now) }
         ensures destination { IfOk result (λ routes. routes.destination ≡ destination) }
     {
         let incoming = Incoming::new(alloc, graph)?;
+        Routes::by_incoming(alloc, &incoming, destination)
+    }
+
+    /// The routes to one node of a graph whose incoming arcs were made before.
+    ///
+    /// Nodes are settled from the destination on, nearest first (Dijkstra 1959). Of two walks of equal weight and equally
+    /// many arcs a node keeps the one with the lesser first arc: what follows their first arcs was compared before, so lists
+    /// of arcs are compared without being built. It takes time in O((nodes + arcs) · log nodes), and memory in O(nodes).
+    pub fn by_incoming(
+        alloc: Global,
+        incoming: &Incoming<'g>,
+        destination: u32,
+    ) -> Result<Routes<'g>, NoMemory>
+        requires { destination < incoming.now.nodes }
+        ensures graph { IfOk result (λ routes. routes.graph ≡ incoming.now) }
+        ensures destination { IfOk result (λ routes. routes.destination ≡ destination) }
+    {
+        let graph = incoming.graph();
         let mut search = Search::start(alloc, graph, destination)?;
-        search.run(graph, &incoming)?;
-        let arcs = Vec::from_slice(alloc, &graph.arcs)?;
+        search.run(incoming)?;
         Ok(Routes {
-            arcs,
+            graph,
             labels: search.labels,
             destination,
         })
     }
 
-    /// Whether a walk leads from `source` to the destination, without building it.
+    /// Whether a walk leads from `source` to the destination, without building it. Where one does, one is least.
     pub fn reaches(&self, source: u32) -> bool
         requires { source < self.now.graph.nodes }
-        ensures { IsTrue result ↔ ((walk : List ℕ) × IsWalk self.now.graph.arcs source self.now.destination walk) }
+        ensures walk { IsTrue result ↔ ((walk : List ℕ) × IsWalk self.now.graph.arcs source self.now.destination walk) }
+        ensures least { IsTrue result ↔ ((walk : List ℕ) × IsLeastWalk self.now.graph.arcs source self.now.destination walk) }
     {
         self.labels[source as usize].is_some()
     }
@@ -77,10 +91,15 @@ impl Routes {
         ensures none { IfOk result (λ found. IsNone found
             ↔ ((other : List ℕ) → ¬ IsWalk self.now.graph.arcs source self.now.destination other)) }
         ensures short { IfOk result (λ found. IfSome found (λ walk. length walk.items < self.now.graph.nodes)) }
+
+        // Its arcs are arcs of the graph, and pairwise different.
+        ensures named { IfOk result (λ found. IfSome found (λ walk. All (λ e. e < length self.now.graph.arcs) walk.items)) }
+        ensures distinct { IfOk result (λ found. IfSome found (λ walk. AllPairs (λ a b. a ≢ b) walk.items)) }
     {
         let Some(first) = self.labels[source as usize] else {
             return Ok(None);
         };
+        let graph = self.graph;
         let mut walk = Vec::new(alloc);
         let mut node = source;
         for _step in 0..first.hops {
@@ -88,7 +107,7 @@ impl Routes {
                 unreachable!()
             };
             walk.push(label.next)?;
-            node = self.arcs[label.next as usize].to;
+            node = graph.arc(label.next).to;
         }
         Ok(Some(walk))
     }

@@ -1,6 +1,6 @@
 use Rattle.std.proofs.Common.{◌≤◌, length}
 use Rattle.std.specs.List.{All}
-use Rattle.routes.specs.Digraph.{IsArcAmong}
+use Rattle.routes.specs.GraphView.{IsArcAmong}
 use Rattle.routes.proofs.tests.graph_of.Given as goal
 
 abbrev pub invariant-loop-from : goal.invariant-loop-from

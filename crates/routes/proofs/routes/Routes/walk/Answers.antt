@@ -1,155 +1,143 @@
-use Rattle.std.proofs.Common.{◌≡◌, ◌<◌, ℕ, ◌+◌, List, length, false, refl, sym, subst, ◌∙◌, arith}
+use Rattle.std.proofs.Common.{◌≡◌, ◌<◌, ℕ, ◌+◌, ◌++◌, List, [], ◌∷◌, length, refl, sym, subst, ◌∙◌, arith}
 use Rattle.std.proofs.lemmas.Bool.{true≢false}
 use Rattle.std.proofs.lemmas.Option.{none-some}
-use Rattle.routes.specs.Digraph.{Toward}
-use Rattle.routes.specs.Walk.{IsWalk}
-use Rattle.routes.specs.LeastWalk.{IsNoGreater, IsLeastWalk}
+use Rattle.routes.specs.LeastWalk.{IsLeastWalk}
 use Rattle.routes.specs.Table.{label_of}
-use Rattle.routes.proofs.NoNodeTwice.{short}
+use Rattle.routes.proofs.Lists.{label_read}
+use Rattle.routes.proofs.NoNodeTwice.{no_arc_twice, arcs_named, short}
 use Rattle.routes.proofs.Table.{no_walk}
-use Rattle.routes.proofs.Way.{label_read, has_place, starts, next_below, goes_on, written, IsOnWay}
+use Rattle.routes.proofs.Way.{source_place, starts, GoesOn, goes, node_place, next_below, goes_on, written, IsOnWay}
 use Rattle.routes.proofs.routes.Routes.walk.Goals as goal
-
-place : (c : goal.In_default) → c.args.source < length c.self.inside.labels.items
-place c = subst (λ (s : Toward). c.args.source < s.graph.nodes) (sym c.self.view_is) c.requires
 
 pub returns-in_default-clause-none : goal.returns-in_default-clause-none
 returns-in_default-clause-none c =
-    subst
-    (λ (s : Toward). (false ≡ false → (other : List ℕ) → IsWalk s.graph.arcs c.args.source s.destination other → ⊥)
-    × (((other : List ℕ) → ¬ IsWalk s.graph.arcs c.args.source s.destination other) → false ≡ false))
-    c.self.view_is (
+    rw (← c.self.view_is) (
       λ _. no_walk
-          c.self.inside.arcs.items
+          c.self.inside.graph.now.arcs
           c.self.inside.destination
           (label_of c.self.inside.labels.items)
           c.self.invariant.table
           c.args.source
-          (label_read c.self.inside.labels.items c.args.source c.index.result.now (place c) c.index.ensures ∙ c.in_default.is),
+          (label_read
+          c.self.inside.labels.items
+          c.args.source
+          c.index.result.now
+          (source_place c.self.invariant c.self.view_is c.requires)
+          c.index.ensures
+          ∙ c.in_default.is),
       λ _. refl,
     )
 
 pub loop-step-init : goal.loop-step-init
 loop-step-init c =
-    let low : c.args.source < length c.self.inside.labels.items =
-    subst (λ (s : Toward). c.args.source < s.graph.nodes) (sym c.self.view_is) c.requires in
-    subst
-    (λ (out : List ℕ). IsOnWay c.self.inside.arcs.items c.self.inside.labels.items c.args.source c.in-Some.first.hops c.args.source 0 out)
-    (sym c.new-walk.ensures.items)
+    rw c.new-walk.ensures.items
     (starts
-    c.self.inside.arcs.items
+    c.in-Some.first
+    (label_read
     c.self.inside.labels.items
     c.args.source
-    c.in-Some.first
-    (label_read c.self.inside.labels.items c.args.source c.index.result.now low c.index.ensures ∙ c.in-Some.is))
+    c.index.result.now
+    (source_place c.self.invariant c.self.view_is c.requires)
+    c.index.ensures
+    ∙ c.in-Some.is))
 
 pub index-requires-in-loop-step : goal.index-requires-in-loop-step
 index-requires-in-loop-step c =
-    let low = has_place c.self.inside.labels.items c.loop-step.node c.loop-step.invariant.own c.loop-step.invariant.has in
+    let low = node_place (goes c.self.invariant c.loop-step.invariant c.loop-step-test.true) in
     omega (arith, c.self.inside.labels.ok)
 
+-- before the last step the node has a label
 pub unreachable-requires : goal.unreachable-requires
 unreachable-requires c =
-    let on = c.loop-step.invariant in
+    let step = goes c.self.invariant c.loop-step.invariant c.loop-step-test.true in
     none-some
-    on.own
+    c.loop-step.invariant.own
     (sym
     (label_read
     c.self.inside.labels.items
     c.loop-step.node
     c.index-in-loop-step.result.now
-    (has_place c.self.inside.labels.items c.loop-step.node on.own on.has)
+    (node_place step)
     c.index-in-loop-step.ensures
     ∙ c.in_default-index.is)
-    ∙ on.has)
+    ∙ c.loop-step.invariant.has)
 
-pub index-requires-in-loop-step-2 : goal.index-requires-in-loop-step-2
-index-requires-in-loop-step-2 c =
-    let low = next_below
-    c.self.inside.arcs.items
-    c.self.inside.labels.items
-    c.self.inside.destination
-    c.args.source
-    c.in-Some.first.hops
-    c.loop-step.node
-    c.loop-step._step
-    c.loop-step.walk.items
-    c.self.invariant.table
-    c.loop-step.invariant
-    c.loop-step-test.true
+pub arc-node-requires : goal.arc-node-requires
+arc-node-requires c =
+    let step = goes c.self.invariant c.loop-step.invariant c.loop-step-test.true in
+    next_below
+    step
     c.in-Some-index.label
+    (label_read
+    c.self.inside.labels.items
+    c.loop-step.node
     c.index-in-loop-step.result.now
+    (node_place step)
     c.index-in-loop-step.ensures
-    c.in-Some-index.is
-    in omega (arith, c.self.inside.arcs.ok)
+    ∙ c.in-Some-index.is)
 
 pub loop-step-preserved : goal.loop-step-preserved
 loop-step-preserved c =
-    subst
-    (λ (out : List ℕ). IsOnWay c.self.inside.arcs.items c.self.inside.labels.items c.args.source c.in-Some.first.hops c.index-in-loop-step-2.result.now.to (c.loop-step._step + 1) out)
-    (sym c.in_ok-push.ensures.items)
+    let step = goes c.self.invariant c.loop-step.invariant c.loop-step-test.true in
+    rw (c.in_ok-push.ensures.items, c.arc-node.ensures)
     (goes_on
-    c.self.inside.arcs.items
-    c.self.inside.labels.items
-    c.self.inside.destination
-    c.args.source
-    c.in-Some.first.hops
-    c.loop-step.node
-    c.loop-step._step
-    c.loop-step.walk.items
-    c.self.invariant.table
-    c.loop-step.invariant
-    c.loop-step-test.true
+    step
     c.in-Some-index.label
-    c.index-in-loop-step.result.now
-    c.index-in-loop-step.ensures
-    c.in-Some-index.is
-    c.index-in-loop-step-2.result.now
-    c.index-in-loop-step-2.ensures)
-
-own : (c : goal.After-loop-step) → IsLeastWalk c.self.inside.arcs.items c.args.source c.self.inside.destination c.loop-step.walk.items
-own c =
-    let low : c.args.source < length c.self.inside.labels.items =
-    subst (λ (s : Toward). c.args.source < s.graph.nodes) (sym c.self.view_is) c.requires in
-    written
-    c.self.inside.arcs.items
+    (label_read
     c.self.inside.labels.items
-    c.self.inside.destination
-    c.args.source
     c.loop-step.node
-    c.loop-step._step
-    c.loop-step.walk.items
+    c.index-in-loop-step.result.now
+    (node_place step)
+    c.index-in-loop-step.ensures
+    ∙ c.in-Some-index.is))
+
+-- what is written at the end
+own : (c : goal.After-loop-step)
+    → IsLeastWalk c.self.inside.graph.now.arcs c.args.source c.self.inside.destination c.loop-step.walk.items
+own c =
+    written
     c.in-Some.first
     c.self.invariant
-    (label_read c.self.inside.labels.items c.args.source c.index.result.now low c.index.ensures ∙ c.in-Some.is)
+    (label_read
+    c.self.inside.labels.items
+    c.args.source
+    c.index.result.now
+    (source_place c.self.invariant c.self.view_is c.requires)
+    c.index.ensures
+    ∙ c.in-Some.is)
     c.loop-step.invariant
     c.loop-step-test.false
 
 pub returns-clause-walk : goal.returns-clause-walk
-returns-clause-walk c = subst (λ (s : Toward). IsWalk s.graph.arcs c.args.source s.destination c.loop-step.walk.items) c.self.view_is (own c).walk
+returns-clause-walk c = rw (← c.self.view_is) (own c).walk
 
 pub returns-clause-least : goal.returns-clause-least
-returns-clause-least c =
-    subst
-    (λ (s : Toward). (other : List ℕ) → IsWalk s.graph.arcs c.args.source s.destination other
-    → IsNoGreater s.graph.arcs c.loop-step.walk.items other)
-    c.self.view_is
-    (own c).least
+returns-clause-least c = rw (← c.self.view_is) (own c).least
 
 pub returns-clause-none : goal.returns-clause-none
-returns-clause-none c = (λ never. absurd (true≢false never), λ no. absurd (no c.loop-step.walk.items (returns-clause-walk c)))
+returns-clause-none c = (
+  λ never. absurd (true≢false never),
+  λ no. absurd (no c.loop-step.walk.items (returns-clause-walk c)),
+)
 
 pub returns-clause-short : goal.returns-clause-short
 returns-clause-short c =
-    subst
-    (λ (s : Toward). length c.loop-step.walk.items < s.graph.nodes)
-    c.self.view_is
+    rw (← c.self.view_is)
     (short
-    c.self.inside.arcs.items
+    c.self.inside.graph.now.arcs
     c.self.inside.destination
-    (length c.self.inside.labels.items)
+    c.self.inside.graph.now.nodes
     c.args.source
     c.loop-step.walk.items
-    c.self.invariant.graph.arcs
-    (subst (λ (s : Toward). c.args.source < s.graph.nodes) (sym c.self.view_is) c.requires)
+    c.self.invariant.limits.arcs
+    (let low = source_place c.self.invariant c.self.view_is c.requires in let len = c.self.invariant.len in omega arith)
     (own c))
+
+pub returns-clause-named : goal.returns-clause-named
+returns-clause-named c =
+    rw (← c.self.view_is)
+    (arcs_named c.self.inside.graph.now.arcs c.args.source c.self.inside.destination c.loop-step.walk.items (own c).walk)
+
+pub returns-clause-distinct : goal.returns-clause-distinct
+returns-clause-distinct c =
+    no_arc_twice c.self.inside.graph.now.arcs c.self.inside.destination c.args.source c.loop-step.walk.items (own c)

@@ -1,75 +1,44 @@
-use Rattle.std.proofs.Common.{◌≡◌, ◌≢◌, ◌↔◌, ◌<◌, ℕ, Bool, false, Some, None, Vec, Global, length, subst, sym, ◌∙◌, arith}
+use Rattle.std.proofs.Common.{◌≡◌, ◌≢◌, ◌↔◌, ◌<◌, ℕ, false, Some, None, IsTrue, inr, length, subst, sym, ◌∙◌, arith}
+use Rattle.std.proofs.lemmas.Bool.{true≢false}
 use Rattle.mn_base.specs.Among.{Among}
-use Rattle.routes.specs.Table.{label_of}
-use Rattle.routes.specs.Search.{settled_of, IsQueue}
-use Rattle.routes.proofs.Way.{label_read}
-use Rattle.routes.proofs.Searching.{settled_read, on_ok_both, queue_first, queue_again}
+use Rattle.routes.specs.declared.label.Label.{Label}
+use Rattle.routes.specs.NodeQueue.{Entry}
+use Rattle.routes.specs.Table.{label_of, IsNoWorse}
+use Rattle.routes.specs.Search.{settled_of}
+use Rattle.routes.proofs.Lists.{label_read, settled_read}
+use Rattle.routes.proofs.Offering.{on_ok, is_open, takes_first, takes_again}
 use Rattle.routes.proofs.search.Search.offer.Goals as goal
 
-pub returns-in-Some-2-clause-queue : goal.returns-in-Some-2-clause-queue
-returns-in-Some-2-clause-queue c =
-    let low : c.args.node < length c.args.self.now.settled.items =
-    (let places = c.requires.places in let node = c.requires.node in omega arith) in
-    let waits : settled_of c.args.self.now.settled.items c.args.node ≡ false =
-    settled_read c.args.self.now.settled.items c.args.node c.index.result.now low c.index.ensures ∙ c.if-index.false in
-    let has : label_of c.args.self.now.labels.items c.args.node ≡ Some c.in-Some-2.own =
-    label_read c.args.self.now.labels.items c.args.node c.index-2.result.now c.requires.node c.index-2.ensures ∙ c.in-Some-2.is in
-    on_ok_both
+pub returns-in-Some-2 : goal.returns-in-Some-2
+returns-in-Some-2 c =
+    on_ok
     c.put.result
-    c.put.ensures.labels
-    c.put.ensures.queue
-    (λ is members.
-    subst
-    (λ (s : Vec Bool Global). IsQueue (label_of c.put.new.self.labels.items) (settled_of s.items) c.put.new.self.queue)
-    (sym c.put.ensures.settled)
-    (queue_again
-    c.args.self.now.labels.items
-    c.put.new.self.labels.items
-    c.args.self.now.settled.items
-    c.args.self.now.queue
-    c.put.new.self.queue
-    c.args.node
-    c.args.label
-    c.requires.queue
-    c.requires.node
-    waits
-    is
+    (λ puts.
+    inr
+    (takes_again
     c.in-Some-2.own
     c.remove.new.self
-    has
+    (is_open c.args.self.now c.args.node c.requires.node c.requires.places c.requires.queue c.index.result.now c.index.ensures c.if-index.false)
+    (label_read c.args.self.now.labels.items c.args.node c.index-2.result.now c.requires.node c.index-2.ensures ∙ c.in-Some-2.is)
+    (λ won.
+    let same : c.in-Some-2.own ≡ c.in-Some.own = cc (c.in-Some.is, c.in-Some-2.is) in
+    true≢false
+    (sym (c.is_no_worse.ensures.1 (subst (λ (l : Label). IsNoWorse l c.args.label) same won)) ∙ c.if-is_no_worse.false))
     (subst
-    (λ (e : ℕ × ℕ × ℕ). (k : ℕ × ℕ × ℕ) → Among k c.remove.new.self ↔ (Among k c.args.self.now.queue × (k ≢ e)))
+    (λ (e : Entry). (k : Entry) → Among k c.remove.new.self ↔ (Among k c.args.self.now.queue × (k ≢ e)))
     c.entry.ensures
     c.remove.ensures)
-    members))
+    puts))
+    c.put.ensures
 
-pub returns-in-None-clause-queue : goal.returns-in-None-clause-queue
-returns-in-None-clause-queue c =
-    let low : c.args.node < length c.args.self.now.settled.items =
-    (let places = c.requires.places in let node = c.requires.node in omega arith) in
-    let waits : settled_of c.args.self.now.settled.items c.args.node ≡ false =
-    settled_read c.args.self.now.settled.items c.args.node c.index.result.now low c.index.ensures ∙ c.if-index.false in
-    let none : label_of c.args.self.now.labels.items c.args.node ≡ None =
-    label_read c.args.self.now.labels.items c.args.node c.index-2.result.now c.requires.node c.index-2.ensures ∙ c.in-None.is in
-    on_ok_both
+pub returns-in-None : goal.returns-in-None
+returns-in-None c =
+    on_ok
     c.put-in-None.result
-    c.put-in-None.ensures.labels
-    c.put-in-None.ensures.queue
-    (λ is members.
-    subst
-    (λ (s : Vec Bool Global). IsQueue (label_of c.put-in-None.new.self.labels.items) (settled_of s.items) c.put-in-None.new.self.queue)
-    (sym c.put-in-None.ensures.settled)
-    (queue_first
-    c.args.self.now.labels.items
-    c.put-in-None.new.self.labels.items
-    c.args.self.now.settled.items
-    c.args.self.now.queue
-    c.put-in-None.new.self.queue
-    c.args.node
-    c.args.label
-    c.requires.queue
-    c.requires.node
-    waits
-    is
-    none
-    members))
+    (λ puts.
+    inr
+    (takes_first
+    (is_open c.args.self.now c.args.node c.requires.node c.requires.places c.requires.queue c.index.result.now c.index.ensures c.if-index.false)
+    (label_read c.args.self.now.labels.items c.args.node c.index-2.result.now c.requires.node c.index-2.ensures ∙ c.in-None.is)
+    puts))
+    c.put-in-None.ensures

@@ -1,10 +1,17 @@
-use Rattle.std.proofs.Common.{◌≡◌, ◌⊎◌, ◌↔◌, ℕ, subst}
+use Rattle.std.proofs.Common.{refl, ◌≡◌, ◌⊎◌, ◌↔◌, subst}
 use Rattle.mn_base.specs.Among.{Among}
+use Rattle.routes.specs.NodeQueue.{Entry}
 use Rattle.routes.proofs.search.Search.put.Goals as goal
 
-pub returns-clause-queue : goal.returns-clause-queue
-returns-clause-queue c =
-    subst
-    (λ (e : ℕ × ℕ × ℕ). (k : ℕ × ℕ × ℕ) → Among k c.push.new.self ↔ ((e ≡ k) ⊎ Among k c.args.self.now.queue))
-    c.entry.ensures
-    c.in_ok-push.ensures
+pub returns : goal.returns
+returns c =
+    record {
+      destination = refl;
+      settled = refl;
+      labels = refl;
+      queue =
+          subst
+          (λ (e : Entry). (k : Entry) → Among k c.push.new.self ↔ ((e ≡ k) ⊎ Among k c.args.self.now.queue))
+          c.entry.ensures
+          c.in_ok-push.ensures;
+    }

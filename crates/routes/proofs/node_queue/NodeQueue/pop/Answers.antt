@@ -1,13 +1,13 @@
 use Rattle.std.proofs.Common.{ℕ, List, subst, ◌↔◌, ◌≢◌, IfSome}
 use Rattle.mn_base.specs.Among.{Among}
-use Rattle.routes.specs.Queue.{IsUpTo}
+use Rattle.routes.specs.NodeQueue.{Entry, IsUpTo}
 use Rattle.routes.proofs.Entries.{rest_of_pop, least_of_pop}
-use Rattle.routes.proofs.queue.Queue.pop.Goals as goal
+use Rattle.routes.proofs.node_queue.NodeQueue.pop.Goals as goal
 
 pub returns-clause-rest : goal.returns-clause-rest
 returns-clause-rest c =
     subst
-    (λ (old : List (ℕ × ℕ × ℕ)). IfSome c.pop_first.result (λ first. (k : ℕ × ℕ × ℕ) → Among k c.pop_first.new.self.keys ↔ (Among k old × (k ≢ first))))
+    (λ (old : List Entry). IfSome c.pop_first.result (λ first. (k : Entry) → Among k c.pop_first.new.self.keys ↔ (Among k old × (k ≢ first))))
     c.self.view_is
     (rest_of_pop
     c.self.inside.entries.keys
@@ -19,7 +19,7 @@ returns-clause-rest c =
 pub returns-clause-least : goal.returns-clause-least
 returns-clause-least c =
     subst
-    (λ (old : List (ℕ × ℕ × ℕ)). IfSome c.pop_first.result (λ first. (k : ℕ × ℕ × ℕ) → Among k old → IsUpTo first k))
+    (λ (old : List Entry). IfSome c.pop_first.result (λ first. (k : Entry) → Among k old → IsUpTo first k))
     c.self.view_is
     (least_of_pop
     c.self.inside.entries.keys
