@@ -121,7 +121,9 @@ module _ (old new : List Entry) (entry : Entry) where
   was_hit : (k : Entry) → is_at (entry_cmp entry) k ≡ true → entry ≡ k
   was_hit k passes = exact entry k (is_equal (entry_cmp entry k) passes)
 
-  pub among_pushed : ((k : Entry) → list_any (is_at (entry_cmp k)) new ≡ cond (is_at (entry_cmp entry) k) true (list_any (is_at (entry_cmp k)) old))
+  -- after an insertion the entry is a member, and all that were
+  pub among_pushed : ((k : Entry)
+      → list_any (is_at (entry_cmp k)) new ≡ cond (is_at (entry_cmp entry) k) true (list_any (is_at (entry_cmp k)) old))
       → (k : Entry) → Among k new ↔ ((entry ≡ k) ⊎ Among k old)
   among_pushed updates k = (
     λ among.
@@ -151,7 +153,9 @@ module _ (old new : List Entry) (entry : Entry) where
       had : Bool
       had = list_any (is_at (entry_cmp k)) old
 
-  pub among_removed : ((k : Entry) → list_any (is_at (entry_cmp k)) new ≡ cond (is_at (entry_cmp entry) k) false (list_any (is_at (entry_cmp k)) old))
+  -- after a removal all that were, but for the entry
+  pub among_removed : ((k : Entry)
+      → list_any (is_at (entry_cmp k)) new ≡ cond (is_at (entry_cmp entry) k) false (list_any (is_at (entry_cmp k)) old))
       → (k : Entry) → Among k new ↔ (Among k old × (k ≢ entry))
   among_removed updates k = (
     λ among.
@@ -203,7 +207,8 @@ module _ (old new : List Entry) where
   rest_of_pop None removal above = tt
   rest_of_pop (Some first) removal above = among_popped old new first removal above
 
-  pub least_of_pop : (r : Option Entry) → IfSome r (λ first. old ≡ first ∷ new) → IfSome r (λ first. All (λ k. entry_cmp first k ≡ Less) new)
+  pub least_of_pop : (r : Option Entry) → IfSome r (λ first. old ≡ first ∷ new)
+      → IfSome r (λ first. All (λ k. entry_cmp first k ≡ Less) new)
       → IfSome r (λ first. (k : Entry) → Among k old → IsUpTo first k)
   least_of_pop None removal above = tt
   least_of_pop (Some first) removal above = least_popped old new first removal above

@@ -160,14 +160,17 @@ module _ (g : GraphView) (s s' : Search) (last : Label) (e : ℕ) (rest : List �
   taken low step =
       record {
         limits = on.limits;
-        labels_len = ap length step.labels ∙ length-set s.labels.items (arc_at g.arcs e).from (Some (offer_of g.arcs e last)) ∙ on.labels_len;
+        labels_len =
+            ap length step.labels
+            ∙ length-set s.labels.items (arc_at g.arcs e).from (Some (offer_of g.arcs e last))
+            ∙ on.labels_len;
         settled_len = ap (λ (bs : Vec Bool Global). length bs.items) step.settled ∙ on.settled_len;
         search =
             subst
-            (λ (d : ℕ). IsSearch g d (label_of s'.labels.items) (settled_of s'.settled.items) (settled_count s'.settled.items) last rest)
+            (λ (d : ℕ). IsSearch g d label' (settled_of s'.settled.items) (settled_count s'.settled.items) last rest)
             (sym step.destination)
             (subst
-            (λ (bs : Vec Bool Global). IsSearch g s.destination (label_of s'.labels.items) (settled_of bs.items) (settled_count bs.items) last rest)
+            (λ (bs : Vec Bool Global). IsSearch g s.destination label' (settled_of bs.items) (settled_count bs.items) last rest)
             (sym step.settled)
             (bettered
             g
@@ -182,14 +185,19 @@ module _ (g : GraphView) (s s' : Search) (last : Label) (e : ℕ) (rest : List �
             rest
             on.search
             (subst
-            (λ (ls : List (Option Label)). IsPut (label_of s.labels.items) (label_of ls) (arc_at g.arcs e).from (Some (offer_of g.arcs e last)))
+            (λ (ls : List (Option Label)).
+            IsPut (label_of s.labels.items) (label_of ls) (arc_at g.arcs e).from (Some (offer_of g.arcs e last)))
             (sym step.labels)
             (put_label s.labels.items (arc_at g.arcs e).from (offer_of g.arcs e last) low))
             step.waits
             step.better));
         queue = step.queue;
       }
+    where
+      label' : ℕ → Option Label
+      label' = label_of s'.labels.items
 
+  -- in both cases
   pub offered : (arc_at g.arcs e).from < length s.labels.items → Offers s s' (arc_at g.arcs e).from (offer_of g.arcs e last)
       → IsSearching g s' last rest
   offered low step = elim step [ inl nothing ↦ refused nothing | inr more ↦ taken low more ]

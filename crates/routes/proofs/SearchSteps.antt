@@ -188,7 +188,13 @@ module _ (g : GraphView) (goal : ℕ) (limits : IsWithinLimits g) where
         elim (cases_eq v (arc_at g.arcs e).from) [
           | inl here ↦
               let same : offer_of g.arcs e last ≡ l =
-              one_label label' v (offer_of g.arcs e last) l (subst (λ w. label' w ≡ Some (offer_of g.arcs e last)) (sym here) put.here) has in
+              one_label
+              label'
+              v
+              (offer_of g.arcs e last)
+              l
+              (subst (λ w. label' w ≡ Some (offer_of g.arcs e last)) (sym here) put.here)
+              has in
               subst (λ (m : Label). P v m) same (subst (λ w. P w (offer_of g.arcs e last)) (sym here) new)
           | inr away ↦ old away (sym (put.other v away) ∙ has)
         ]
@@ -251,7 +257,8 @@ module _ (g : GraphView) (goal : ℕ) (limits : IsWithinLimits g) where
         }
 
     -- the start of the arc has the label that the arc offers
-    taken : (f : ℕ) (m : Label) → label (arc_at g.arcs f).to ≡ Some m → e ≡ f → HasNoWorse label' (arc_at g.arcs f).from (offer_of g.arcs f m)
+    taken : (f : ℕ) (m : Label) → label (arc_at g.arcs f).to ≡ Some m → e ≡ f
+        → HasNoWorse label' (arc_at g.arcs f).from (offer_of g.arcs f m)
     taken f m to here =
         same_arc
         g.arcs

@@ -100,13 +100,13 @@ row_next {g} {s} {s'} {v} {l} row rest step into =
       settled_len = ap length step.settled ∙ length-set s.settled.items v true ∙ rest.on.settled_len;
       search =
           subst
-          (λ (d : ℕ). IsSearch g d (label_of s'.labels.items) (settled_of s'.settled.items) (settled_count s'.settled.items) l row)
+          (λ (d : ℕ). IsSearch g d (label_of s'.labels.items) settled' (settled_count s'.settled.items) l row)
           (sym step.destination)
           (subst
-          (λ (ls : List (Option Label)). IsSearch g s.destination (label_of ls) (settled_of s'.settled.items) (settled_count s'.settled.items) l row)
+          (λ (ls : List (Option Label)). IsSearch g s.destination (label_of ls) settled' (settled_count s'.settled.items) l row)
           (sym same_labels)
           (subst
-          (λ (n : ℕ). IsSearch g s.destination (label_of s.labels.items) (settled_of s'.settled.items) n l row)
+          (λ (n : ℕ). IsSearch g s.destination (label_of s.labels.items) settled' n l row)
           (sym (ap settled_count step.settled ∙ count_more s.settled.items v low step.waited))
           next));
       queue = step.queue;
@@ -117,6 +117,9 @@ row_next {g} {s} {s'} {v} {l} row rest step into =
 
     low : v < length s.settled.items
     low = settles_place rest step
+
+    settled' : ℕ → Bool
+    settled' = settled_of s'.settled.items
 
     next : IsSearch g s.destination (label_of s.labels.items) (settled_of s'.settled.items) (settled_count s.settled.items + 1) l row
     next =

@@ -109,7 +109,16 @@ module _ (arcs : List Arc) (goal : ℕ) (label : ℕ → Option Label) (table : 
                                   | inr same ↦
                                       inr (
                                         omega arith,
-                                        no_later e (arc_at arcs e).from rest.own.hops won.own fs won.has (omega (arith, first.0)) first.1 same.1,
+                                        no_later
+                                            e
+                                            (arc_at arcs e).from
+                                            rest.own.hops
+                                            won.own
+                                            fs
+                                            won.has
+                                            (omega (arith, first.0))
+                                            first.1
+                                            same.1,
                                       )
                                 ]
                           ],

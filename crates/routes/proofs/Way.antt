@@ -100,7 +100,8 @@ module _ {g : GraphView} {labels : List (Option Label)} {goal source hops node t
         rest : List ℕ
         rest = path g.arcs (label_of labels) leads.rest.hops (arc_at g.arcs step.on.own.next).to
 
-        first : path g.arcs (label_of labels) step.on.own.hops node ≡ step.on.own.next ∷ path g.arcs (label_of labels) leads.rest.hops (arc_at g.arcs step.on.own.next).to
+        first : path g.arcs (label_of labels) step.on.own.hops node
+            ≡ step.on.own.next ∷ path g.arcs (label_of labels) leads.rest.hops (arc_at g.arcs step.on.own.next).to
         first =
             ap (λ n. path g.arcs (label_of labels) n node) fewer
             ∙ ap

@@ -7,7 +7,8 @@ use Rattle.routes.proofs.node_queue.NodeQueue.pop.Goals as goal
 pub returns-clause-rest : goal.returns-clause-rest
 returns-clause-rest c =
     subst
-    (λ (old : List Entry). IfSome c.pop_first.result (λ first. (k : Entry) → Among k c.pop_first.new.self.keys ↔ (Among k old × (k ≢ first))))
+    (λ (old : List Entry).
+    IfSome c.pop_first.result (λ first. (k : Entry) → Among k c.pop_first.new.self.keys ↔ (Among k old × (k ≢ first))))
     c.self.view_is
     (rest_of_pop
     c.self.inside.entries.keys

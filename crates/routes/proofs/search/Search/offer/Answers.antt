@@ -18,7 +18,15 @@ returns-in-Some-2 c =
     (takes_again
     c.in-Some-2.own
     c.remove.new.self
-    (is_open c.args.self.now c.args.node c.requires.node c.requires.places c.requires.queue c.index.result.now c.index.ensures c.if-index.false)
+    (is_open
+    c.args.self.now
+    c.args.node
+    c.requires.node
+    c.requires.places
+    c.requires.queue
+    c.index.result.now
+    c.index.ensures
+    c.if-index.false)
     (label_read c.args.self.now.labels.items c.args.node c.index-2.result.now c.requires.node c.index-2.ensures ∙ c.in-Some-2.is)
     (λ won.
     let same : c.in-Some-2.own ≡ c.in-Some.own = cc (c.in-Some.is, c.in-Some-2.is) in
@@ -38,7 +46,15 @@ returns-in-None c =
     (λ puts.
     inr
     (takes_first
-    (is_open c.args.self.now c.args.node c.requires.node c.requires.places c.requires.queue c.index.result.now c.index.ensures c.if-index.false)
+    (is_open
+    c.args.self.now
+    c.args.node
+    c.requires.node
+    c.requires.places
+    c.requires.queue
+    c.index.result.now
+    c.index.ensures
+    c.if-index.false)
     (label_read c.args.self.now.labels.items c.args.node c.index-2.result.now c.requires.node c.index-2.ensures ∙ c.in-None.is)
     puts))
     c.put-in-None.ensures
