@@ -8,7 +8,7 @@ use Rattle.routes.specs.NodeQueue.{Entry}
 use Rattle.routes.specs.Walk.{arc_at}
 use Rattle.routes.specs.Table.{label_of, offer_of, IsNoWorse, HasNoWorse}
 use Rattle.routes.specs.Search.{settled_of, settled_count, entry_of, IsNodeQueue, IsSearch}
-use Rattle.routes.specs.Searching.{IsSearching, Puts, Refuses, Takes, Offers}
+use Rattle.routes.specs.Searching.{IsSearching, Puts, KeepsLabel, TakesLabel, Offers}
 use Rattle.routes.proofs.Lists.{settled_read, put_label}
 use Rattle.routes.proofs.SearchSteps.{IsPut, one_label, no_worse_otherwise, kept, kept_settled, bettered}
 use Rattle.routes.proofs.QueueSteps.{queue_moved, no_entry, one_entry}
@@ -40,7 +40,7 @@ pub record Moves (s s' : Search) (v : ℕ) (c : Label) : Type 0 where
 
 -- so it is again the queue of the nodes that aren't settled
 takes : {s s' : Search} {v : ℕ} {c : Label} → IsOpen s v → Moves s s' v c
-    → ((l : Label) → label_of s.labels.items v ≡ Some l → IsNoWorse c l) → Takes s s' v c
+    → ((l : Label) → label_of s.labels.items v ≡ Some l → IsNoWorse c l) → TakesLabel s s' v c
 takes {s} {s'} {v} {c} on moves better =
     record {
       destination = moves.destination;
@@ -70,7 +70,7 @@ takes {s} {s'} {v} {c} on moves better =
     }
 
 -- a node that had no label had no entry
-pub takes_first : {s s' : Search} {v : ℕ} {c : Label} → IsOpen s v → label_of s.labels.items v ≡ None → Puts s s' v c → Takes s s' v c
+pub takes_first : {s s' : Search} {v : ℕ} {c : Label} → IsOpen s v → label_of s.labels.items v ≡ None → Puts s s' v c → TakesLabel s s' v c
 takes_first {s} {s'} {v} {c} on none puts =
     takes
     on
@@ -94,7 +94,7 @@ takes_first {s} {s'} {v} {c} on none puts =
 pub takes_again : {s s' : Search} {v : ℕ} {c : Label} (own : Label) (rest : List Entry) → IsOpen s v
     → label_of s.labels.items v ≡ Some own → (IsNoWorse own c → ⊥)
     → ((k : Entry) → Among k rest ↔ (Among k s.queue × (k ≢ entry_of own v)))
-    → Puts (record s { queue = rest }) s' v c → Takes s s' v c
+    → Puts (record s { queue = rest }) s' v c → TakesLabel s s' v c
 takes_again {s} {s'} {v} {c} own rest on has worse removed puts =
     takes
     on
@@ -128,7 +128,7 @@ takes_again {s} {s'} {v} {c} own rest on has worse removed puts =
 module _ (g : GraphView) (s s' : Search) (last : Label) (e : ℕ) (rest : List ℕ)
     (on : IsSearching g s last (e ∷ rest)) where
   -- where nothing changes, since the start of the arc has no worse label
-  refused : Refuses s s' (arc_at g.arcs e).from (offer_of g.arcs e last) → IsSearching g s' last rest
+  refused : KeepsLabel s s' (arc_at g.arcs e).from (offer_of g.arcs e last) → IsSearching g s' last rest
   refused nothing =
       subst
       (λ (t : Search). IsSearching g t last rest)
@@ -155,7 +155,7 @@ module _ (g : GraphView) (s s' : Search) (last : Label) (e : ℕ) (rest : List �
       count = settled_count s.settled.items
 
   -- where it is taken
-  taken : (arc_at g.arcs e).from < length s.labels.items → Takes s s' (arc_at g.arcs e).from (offer_of g.arcs e last)
+  taken : (arc_at g.arcs e).from < length s.labels.items → TakesLabel s s' (arc_at g.arcs e).from (offer_of g.arcs e last)
       → IsSearching g s' last rest
   taken low step =
       record {

@@ -46,12 +46,12 @@ pub record Puts (s s' : Search) (v : ℕ) (l : Label) : Type 0 where
   pub queue : (k : Entry) → Among k s'.queue ↔ ((entry_of l v ≡ k) ⊎ Among k s.queue)
 
 -- the node v is settled or has a label that is no worse than c, so nothing changes
-pub record Refuses (s s' : Search) (v : ℕ) (c : Label) : Type 0 where
+pub record KeepsLabel (s s' : Search) (v : ℕ) (c : Label) : Type 0 where
   pub same : s' ≡ s
   pub won : (settled_of s.settled.items v ≡ true) ⊎ HasNoWorse (label_of s.labels.items) v c
 
 -- the node v isn't settled, and gets the label c, which is no worse than what it had
-pub record Takes (s s' : Search) (v : ℕ) (c : Label) : Type 0 where
+pub record TakesLabel (s s' : Search) (v : ℕ) (c : Label) : Type 0 where
   pub destination : s'.destination ≡ s.destination
   pub settled : s'.settled ≡ s.settled
   pub labels : s'.labels.items ≡ slice_set s.labels.items v (Some c)
@@ -61,7 +61,7 @@ pub record Takes (s s' : Search) (v : ℕ) (c : Label) : Type 0 where
 
 -- what the offer of the label c to the node v leaves
 abbrev pub Offers : Search → Search → ℕ → Label → Type 0
-Offers s s' v c = Refuses s s' v c ⊎ Takes s s' v c
+Offers s s' v c = KeepsLabel s s' v c ⊎ TakesLabel s s' v c
 
 -- arcs into the node that was settled last were looked at, and the pending ones are left
 pub record Relaxes (g : GraphView) (s s' : Search) (last : Label) (pending : List ℕ) : Type 0 where
