@@ -1,6 +1,8 @@
 pub mod Fail
-pub mod Memory
+pub mod MemoryHostView
 pub mod Part
-pub mod Real
+pub mod RealHostView
+pub mod RealRoleView
 pub mod Role
+pub mod StreamView
 pub mod Whole

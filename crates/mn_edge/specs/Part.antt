@@ -1,5 +1,5 @@
 -- The part of one role in a host, and what a call on that role does to it.
-use Rattle.std.specs.Prelude.{◌≡◌, ℕ, ◌≤◌, Bool, true, false, List, Option, Some}
+use Rattle.std.specs.Prelude.{◌≡◌, ℕ, ◌+◌, ◌-◌, ◌^◌, min, ◌≤◌, Bool, true, false, List, Option, Some}
 use Rattle.std.specs.Io.KnownBytes.{prepend_known, append_known}
 use Rattle.mn_base.specs.Causes.{Rose}
 
@@ -12,6 +12,12 @@ pub record Part : Type 0 where
   pub active : Bool
   -- how many calls failed; it never falls
   pub faults : ℕ
+  -- how many begins went well, up to 2^64 - 1
+  pub begins : ℕ
+
+-- one more, up to 2^64 - 1
+abbrev pub one_more : ℕ → ℕ
+one_more count = min (count + 1) (2 ^ 64 - 1)
 
 -- the count of faults rose, and nothing else changed
 pub record Fails (old new : Part) : Type 0 where
@@ -19,10 +25,10 @@ pub record Fails (old new : Part) : Type 0 where
   pub later : old.faults ≤ new.faults
   pub same : new ≡ record old { faults = new.faults }
 
--- the role became active under that name
+-- the role became active under that name, and was begun once more
 pub record Begins (text : List ℕ) (old new : Part) : Type 0 where
   pub later : old.faults ≤ new.faults
-  pub same : new ≡ record old { name = Some text; active = true; faults = new.faults }
+  pub same : new ≡ record old { name = Some text; active = true; faults = new.faults; begins = one_more old.begins }
 
 -- the bytes that were left lost these at their front
 pub record Takes (bytes : List ℕ) (old new : Part) : Type 0 where

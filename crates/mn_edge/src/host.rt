@@ -9,14 +9,14 @@ use crate::Role;
 #[derive(Clone, Copy, Debug, PartialEq, Eq)]
 pub struct Failed;
 
-/// A text was not written whole, since a call of the host failed.
+/// Bytes were not written whole, since a call of the host failed.
 #[derive(Clone, Copy, Debug, PartialEq, Eq)]
 pub struct WriteFault;
 
 /// Where a command reads its inputs and writes its outputs, a role at a time.
 ///
 /// A role is begun under a name, then read or written piece by piece, then finished. A call touches only the part of
-/// its own role. A count of faults never falls; it stops at 2^64 - 1.
+/// its own role. A count of faults never falls, and the begins that went well are counted; both stop at 2^64 - 1.
 pub trait Host {
     /// The part of each role.
     ghost part: { Self → Role → Part };

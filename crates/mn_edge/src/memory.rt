@@ -4,12 +4,13 @@ ghost use Rattle.std.specs.Io.KnownBytes.{IsAtEnd};
 ghost use Rattle.mn_edge.specs.declared.role.Role.{Role};
 ghost use Rattle.mn_edge.specs.Part.{Part, Fails, Begins, Takes, Adds, Finishes};
 ghost use Rattle.mn_edge.specs.Role.{is_input};
-ghost use Rattle.mn_edge.specs.Memory.{Memory, held_of, part_of, fresh, given, NamesNext, IsFull, read_size, write_size, after_begin, after_read, after_write, after_finish, Touches};
+ghost use Rattle.mn_edge.specs.MemoryHostView.{MemoryHostView, stream_of, given_bytes, NamesNext, read_size, write_size, Touches};
+ghost use Rattle.mn_edge.specs.StreamView.{told_part, unused_stream, IsFull, after_begin, after_read, after_write, after_finish};
 
 use crate::fail::{Fail, Op, is_named};
 use crate::host::{Failed, Host};
 use crate::role::Role;
-use crate::stream::Stream;
+use crate::stream::{NAME_MAX, Stream};
 use mn_base::NoMemory;
 use std::alloc::Global;
 use std::marker::Model;
@@ -28,11 +29,11 @@ pub struct MemoryHost {
 
 impl Model for MemoryHost {
     ghost use Rattle.std.specs.Prelude.{◌≤◌};
-    ghost use Rattle.mn_edge.specs.Memory.{Memory};
+    ghost use Rattle.mn_edge.specs.MemoryHostView.{MemoryHostView};
 
-    ghost Value = { Memory };
+    ghost Value = { MemoryHostView };
 
-    ghost view = { λ m. record { fails = m.fails.items; piece = m.piece; roles = m.streams } };
+    ghost view = { λ m. record { fails = m.fails.items; piece = m.piece; streams = m.streams } };
 
     ghost invariant = { λ m. 1 ≤ m.piece };
 }
@@ -51,8 +52,8 @@ impl MemoryHost {
     ) -> Result<MemoryHost, NoMemory>
         requires { 1 ≤ piece }
         ensures roles { IfOk result (λ host. (role : Role) →
-            held_of host role ≡ fresh (given topology.now trace.now directory.now role) (if is_input role then 0 else room)) }
-        ensures inactive { IfOk result (λ host. (role : Role) → (held_of host role).active ≡ false) }
+            stream_of host role ≡ unused_stream (given_bytes topology.now trace.now directory.now role) (if is_input role then 0 else room)) }
+        ensures inactive { IfOk result (λ host. (role : Role) → (stream_of host role).active ≡ false) }
         ensures fails { IfOk result (λ host. host.fails ≡ fails.now) }
         ensures piece { IfOk result (λ host. host.piece ≡ piece) }
     {
@@ -72,80 +73,81 @@ impl MemoryHost {
 
     /// The bytes that were written to a role.
     pub fn written_bytes(&self, role: Role) -> &[u8]
-        ensures lent { result.now ≡ (held_of self.now role).written }
+        ensures lent { result.now ≡ (stream_of self.now role).written }
     {
-        self.streams[role.place()].written()
+        self.streams[role.index()].written()
     }
 }
 
 impl Host for MemoryHost {
-    ghost use Rattle.mn_edge.specs.Memory.{part_of, held_of};
+    ghost use Rattle.mn_edge.specs.MemoryHostView.{stream_of};
+    ghost use Rattle.mn_edge.specs.StreamView.{told_part};
 
-    ghost part = { λ host role. part_of (held_of host role) };
+    ghost part = { λ host role. told_part (stream_of host role) };
 
     fn begin(&mut self, role: Role, name: &str) -> Result<(), Failed>
-        requires { (part_of (held_of self.old role)).active ≡ false }
+        requires { (told_part (stream_of self.old role)).active ≡ false }
         ensures own { MatchResult result
-            (λ _. Begins name.now (part_of (held_of self.old role)) (part_of (held_of self.new role)))
-            (λ _. Fails (part_of (held_of self.old role)) (part_of (held_of self.new role))) }
-        ensures others { (other : Role) → other ≢ role → part_of (held_of self.new other) ≡ part_of (held_of self.old other) }
-        ensures exact { IsErr result ↔ (NamesNext self.old role Op.Begin ⊎ 4096 < length name.now) }
-        ensures after { held_of self.new role ≡ after_begin name.now (held_of self.old role) result }
+            (λ _. Begins name.now (told_part (stream_of self.old role)) (told_part (stream_of self.new role)))
+            (λ _. Fails (told_part (stream_of self.old role)) (told_part (stream_of self.new role))) }
+        ensures others { (other : Role) → other ≢ role → told_part (stream_of self.new other) ≡ told_part (stream_of self.old other) }
+        ensures exact { IsErr result ↔ (NamesNext self.old role Op.Begin ⊎ NAME_MAX < length name.now) }
+        ensures after { stream_of self.new role ≡ after_begin name.now (stream_of self.old role) result }
         ensures touched { Touches role self.old self.new }
     {
-        let stream = &mut self.streams[role.place()];
+        let stream = &mut self.streams[role.index()];
         let named = is_named(&self.fails, role, Op::Begin, stream.begins());
         stream.begin(named, name)
     }
 
     fn read(&mut self, role: Role, buffer: &mut [u8]) -> Result<usize, Failed>
-        requires active { (part_of (held_of self.old role)).active ≡ true }
+        requires active { (told_part (stream_of self.old role)).active ≡ true }
         requires room { 0 < length buffer.old }
         ensures within { IfOk result (λ n. n ≤ length buffer.new) }
         ensures own { MatchResult result
-            (λ n. Takes (take n buffer.new) (part_of (held_of self.old role)) (part_of (held_of self.new role)))
-            (λ _. Fails (part_of (held_of self.old role)) (part_of (held_of self.new role))) }
-        ensures end { IfOk result (λ n. n ≡ 0 → IsAtEnd (part_of (held_of self.new role)).left) }
-        ensures others { (other : Role) → other ≢ role → part_of (held_of self.new other) ≡ part_of (held_of self.old other) }
+            (λ n. Takes (take n buffer.new) (told_part (stream_of self.old role)) (told_part (stream_of self.new role)))
+            (λ _. Fails (told_part (stream_of self.old role)) (told_part (stream_of self.new role))) }
+        ensures end { IfOk result (λ n. n ≡ 0 → IsAtEnd (told_part (stream_of self.new role)).left) }
+        ensures others { (other : Role) → other ≢ role → told_part (stream_of self.new other) ≡ told_part (stream_of self.old other) }
         ensures exact { IsErr result ↔ NamesNext self.old role Op.Read }
         ensures size { IfOk result (λ n. n ≡ read_size self.old role (length buffer.old)) }
-        ensures after { held_of self.new role ≡ after_read (held_of self.old role) result }
+        ensures after { stream_of self.new role ≡ after_read (stream_of self.old role) result }
         ensures touched { Touches role self.old self.new }
     {
-        let stream = &mut self.streams[role.place()];
+        let stream = &mut self.streams[role.index()];
         let named = is_named(&self.fails, role, Op::Read, stream.reads());
         stream.read(named, self.piece, buffer)
     }
 
     fn write(&mut self, role: Role, piece: &[u8]) -> Result<usize, Failed>
-        requires active { (part_of (held_of self.old role)).active ≡ true }
+        requires active { (told_part (stream_of self.old role)).active ≡ true }
         requires some { 0 < length piece.now }
         ensures within { IfOk result (λ n. (1 ≤ n) × (n ≤ length piece.now)) }
         ensures own { MatchResult result
-            (λ n. Adds (take n piece.now) (part_of (held_of self.old role)) (part_of (held_of self.new role)))
-            (λ _. Fails (part_of (held_of self.old role)) (part_of (held_of self.new role))) }
-        ensures others { (other : Role) → other ≢ role → part_of (held_of self.new other) ≡ part_of (held_of self.old other) }
-        ensures exact { IsErr result ↔ (NamesNext self.old role Op.Write ⊎ IsFull (held_of self.old role)) }
+            (λ n. Adds (take n piece.now) (told_part (stream_of self.old role)) (told_part (stream_of self.new role)))
+            (λ _. Fails (told_part (stream_of self.old role)) (told_part (stream_of self.new role))) }
+        ensures others { (other : Role) → other ≢ role → told_part (stream_of self.new other) ≡ told_part (stream_of self.old other) }
+        ensures exact { IsErr result ↔ (NamesNext self.old role Op.Write ⊎ IsFull (stream_of self.old role)) }
         ensures size { IfOk result (λ n. n ≡ write_size self.old role (length piece.now)) }
-        ensures after { held_of self.new role ≡ after_write piece.now (held_of self.old role) result }
+        ensures after { stream_of self.new role ≡ after_write piece.now (stream_of self.old role) result }
         ensures touched { Touches role self.old self.new }
     {
-        let stream = &mut self.streams[role.place()];
+        let stream = &mut self.streams[role.index()];
         let named = is_named(&self.fails, role, Op::Write, stream.writes());
         stream.write(named, self.piece, piece)
     }
 
     fn finish(&mut self, role: Role) -> Result<(), Failed>
-        requires { (part_of (held_of self.old role)).active ≡ true }
+        requires { (told_part (stream_of self.old role)).active ≡ true }
         ensures own { MatchResult result
-            (λ _. Finishes (part_of (held_of self.old role)) (part_of (held_of self.new role)))
-            (λ _. Fails (part_of (held_of self.old role)) (part_of (held_of self.new role))) }
-        ensures others { (other : Role) → other ≢ role → part_of (held_of self.new other) ≡ part_of (held_of self.old other) }
+            (λ _. Finishes (told_part (stream_of self.old role)) (told_part (stream_of self.new role)))
+            (λ _. Fails (told_part (stream_of self.old role)) (told_part (stream_of self.new role))) }
+        ensures others { (other : Role) → other ≢ role → told_part (stream_of self.new other) ≡ told_part (stream_of self.old other) }
         ensures exact { IsErr result ↔ NamesNext self.old role Op.Finish }
-        ensures after { held_of self.new role ≡ after_finish (held_of self.old role) result }
+        ensures after { stream_of self.new role ≡ after_finish (stream_of self.old role) result }
         ensures touched { Touches role self.old self.new }
     {
-        let stream = &mut self.streams[role.place()];
+        let stream = &mut self.streams[role.index()];
         let named = is_named(&self.fails, role, Op::Finish, stream.finishes());
         stream.finish(named)
     }

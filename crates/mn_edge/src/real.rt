@@ -1,98 +1,113 @@
-// The real host. It is trusted to do what it says of files and standard output, since no contract can.
-ghost use Rattle.std.specs.Prelude.{◌≡◌, ◌≢◌, ◌<◌, ◌≤◌, true, false, length, take, IfOk, MatchResult};
-ghost use Rattle.std.specs.Io.KnownBytes.{IsAtEnd};
+// The real host. Which file or stream stands behind a role is trusted, since no contract can say what the system opens.
+ghost use Rattle.std.specs.Prelude.{◌≡◌, ◌≢◌, ◌<◌, ◌≤◌, true, false, length, take, IfOk, MatchResult, OnErr};
+ghost use Rattle.std.specs.Io.KnownBytes.{IsAtEnd, ReadConsumes, WriteAppends};
 ghost use Rattle.mn_edge.specs.declared.role.Role.{Role};
 ghost use Rattle.mn_edge.specs.Part.{Fails, Begins, Takes, Adds, Finishes};
-ghost use Rattle.mn_edge.specs.Real.{untouched, silent, silent_part, faults_after};
+ghost use Rattle.mn_edge.specs.RealHostView.{silent_part, file_of, bytes_of, bytes_ahead, bytes_taken, TouchesFile};
+ghost use Rattle.mn_edge.specs.RealRoleView.{unused_role, silent, faults_after};
 
 use crate::host::{Failed, Host};
+use crate::real_role::RealRole;
 use crate::role::Role;
-use crate::slot::Slot;
-use std::fs::File;
+use std::fs::{File, Files};
 use std::io::{Read, Write};
 use std::marker::Model;
-use std::rt::Files;
+use std::rt::Stdout;
 use std::{array, io};
 
-/// Files of the system, and standard output for Screen, whatever its name.
+/// Files of the system, and a stream for Screen, whatever its name: standard output, unless `over` is given another one.
 ///
 /// The files of Topology, Trace and Directory are opened to be read; those of Out and Report are made, and emptied, when
 /// they are begun. Each error of the system is a counted fault, and so are a write that takes nothing and a name for
-/// which there is no memory. It tells no bytes.
+/// which there is no memory, which is found before a file is opened. As a host it tells no bytes; the clauses `bytes` of
+/// its own calls say that a call moves just those bytes that the file or stream gave or took.
 #[derive(Drop)]
-pub struct RealHost<R> {
+pub struct RealHost<R, F, S> {
     rt: R,
-    opened: [Opened; Role::COUNT],
-    slots: [Slot; Role::COUNT],
+    screen: S,
+    files: [Option<F>; Role::COUNT],
+    roles: [RealRole; Role::COUNT],
 }
 
-/// What stands behind a role.
-#[derive(Drop)]
-enum Opened {
-    Nothing,
-    File(File),
-    Screen,
+impl<R, F, S> Model for RealHost<R, F, S> {
+    ghost use Rattle.mn_edge.specs.RealHostView.{RealHostView};
+
+    ghost Value = { RealHostView F S };
+
+    ghost view = { λ h. record { roles = h.roles; files = h.files; screen = h.screen } };
 }
 
-impl<R> Model for RealHost<R> {
-    ghost use Rattle.std.specs.Prelude.{List};
-    ghost use Rattle.mn_edge.specs.Real.{Known};
-
-    ghost Value = { List Known };
-
-    ghost view = { λ h. h.slots };
-}
-
-/// The file of a role: an input to be read, an output made and emptied.
-fn open<R: Files<File = File>>(rt: &R, role: Role, name: &str) -> io::Result<Opened> {
+/// The file of a role: an input to be read, an output made and emptied, and none for Screen.
+fn open<R: Files>(rt: &R, role: Role, name: &str) -> io::Result<Option<R::File>> {
     if role == Role::Screen {
-        Ok(Opened::Screen)
+        Ok(None)
     } else if role.is_input() {
-        Ok(Opened::File(File::open(rt, name)?))
+        Ok(Some(File::open(rt, name)?))
     } else {
-        Ok(Opened::File(File::create(rt, name)?))
+        Ok(Some(File::create(rt, name)?))
     }
 }
 
-fn read_from(opened: &mut Opened, buffer: &mut [u8]) -> Result<usize, Failed>
+fn read_from<F: Read>(file: &mut Option<F>, buffer: &mut [u8]) -> Result<usize, Failed>
     ensures within { IfOk result (λ n. n ≤ length buffer.new) }
+    ensures bytes { ReadConsumes (bytes_of F.remaining file.old) (bytes_of F.remaining file.new) result buffer.new }
 {
-    match opened {
-        Opened::File(file) => file.read(buffer).map_err(|_| Failed),
-        Opened::Nothing | Opened::Screen => Err(Failed),
+    match file {
+        Some(file) => file.read(buffer).map_err(|_| Failed),
+        None => Err(Failed),
     }
 }
 
-fn write_to<R: Print>(rt: &R, opened: &mut Opened, piece: &[u8]) -> Result<usize, Failed>
+fn write_to<W: Write>(writer: &mut W, piece: &[u8]) -> Result<usize, Failed>
     ensures within { IfOk result (λ n. (1 ≤ n) × (n ≤ length piece.now)) }
+    ensures bytes { WriteAppends (W.contents writer.old) (W.contents writer.new) result piece.now }
 {
-    let written = match opened {
-        Opened::File(file) => file.write(piece).map_err(|_| Failed),
-        Opened::Screen => rt.write_some(piece).map_err(|_| Failed),
-        Opened::Nothing => Err(Failed),
-    };
-    match written {
-        Ok(0) | Err(Failed) => Err(Failed),
+    match writer.write(piece) {
+        Ok(0) | Err(_) => Err(Failed),
         Ok(count) => Ok(count),
     }
 }
 
-impl<R> RealHost<R> {
-    /// A host of which no role was begun yet.
-    pub fn new(rt: R) -> RealHost<R>
-        ensures untouched { (role : Role) → silent_part result role ≡ silent untouched }
+fn write_to_file<F: Write>(file: &mut Option<F>, piece: &[u8]) -> Result<usize, Failed>
+    ensures within { IfOk result (λ n. (1 ≤ n) × (n ≤ length piece.now)) }
+    ensures bytes { WriteAppends (bytes_of F.contents file.old) (bytes_of F.contents file.new) result piece.now }
+{
+    match file {
+        Some(file) => write_to(file, piece),
+        None => Err(Failed),
+    }
+}
+
+impl RealHost<HostRuntime, File, Stdout> {
+    /// The system's files and standard output, of which no role was begun yet.
+    pub fn new(rt: HostRuntime) -> RealHost<HostRuntime, File, Stdout>
+        ensures unused { (role : Role) → silent_part result role ≡ silent unused_role }
         ensures inactive { (role : Role) → (silent_part result role).active ≡ false }
+    {
+        let screen = rt.stdout();
+        RealHost::over(rt, screen)
+    }
+}
+
+impl<R, F, S> RealHost<R, F, S> {
+    /// A host over these files and this stream, of which no role was begun yet.
+    pub fn over(rt: R, screen: S) -> RealHost<R, F, S>
+        ensures unused { (role : Role) → silent_part result role ≡ silent unused_role }
+        ensures inactive { (role : Role) → (silent_part result role).active ≡ false }
+        ensures screen { result.screen ≡ screen }
     {
         RealHost {
             rt,
-            opened: array::from_fn(|_| Opened::Nothing),
-            slots: array::from_fn(|_| Slot::new()),
+            screen,
+            files: array::from_fn(|_| None),
+            roles: array::from_fn(|_| RealRole::new()),
         }
     }
 }
 
-impl<R: Files<File = File> + Print + AllocGlobal + Drop> Host for RealHost<R> {
-    ghost use Rattle.mn_edge.specs.Real.{silent_part};
+impl<R: Files<File = F> + AllocGlobal + Drop, F: Read + Write + Drop, S: Write + Drop> Host
+    for RealHost<R, F, S> {
+    ghost use Rattle.mn_edge.specs.RealHostView.{silent_part};
 
     ghost part = { silent_part };
 
@@ -103,15 +118,20 @@ impl<R: Files<File = File> + Print + AllocGlobal + Drop> Host for RealHost<R> {
             (λ _. Fails (silent_part self.old role) (silent_part self.new role)) }
         ensures others { (other : Role) → other ≢ role → silent_part self.new other ≡ silent_part self.old other }
         ensures counted { (silent_part self.new role).faults ≡ faults_after (silent_part self.old role).faults result }
+        ensures files { (other : Role) → other ≢ role → file_of self.new other ≡ file_of self.old other }
+        ensures screen { self.new.screen ≡ self.old.screen }
     {
-        let place = role.place();
-        let slot = &mut self.slots[place];
-        let Ok(opened) = open(&self.rt, role, name) else {
-            slot.fault();
+        let index = role.index();
+        let Ok(kept) = String::from_str(self.rt.alloc(), name) else {
+            self.roles[index].fault();
             return Err(Failed);
         };
-        slot.begin(self.rt.alloc(), name)?;
-        self.opened[place] = opened;
+        let Ok(opened) = open(&self.rt, role, name) else {
+            self.roles[index].fault();
+            return Err(Failed);
+        };
+        self.roles[index].begin(kept);
+        self.files[index] = opened;
         Ok(())
     }
 
@@ -125,11 +145,13 @@ impl<R: Files<File = File> + Print + AllocGlobal + Drop> Host for RealHost<R> {
         ensures end { IfOk result (λ n. n ≡ 0 → IsAtEnd (silent_part self.new role).left) }
         ensures others { (other : Role) → other ≢ role → silent_part self.new other ≡ silent_part self.old other }
         ensures counted { (silent_part self.new role).faults ≡ faults_after (silent_part self.old role).faults result }
+        ensures bytes { ReadConsumes (bytes_ahead F.remaining self.old role) (bytes_ahead F.remaining self.new role) result buffer.new }
+        ensures files { (other : Role) → other ≢ role → file_of self.new other ≡ file_of self.old other }
+        ensures screen { self.new.screen ≡ self.old.screen }
     {
-        let place = role.place();
-        let Ok(count) = read_from(&mut self.opened[place], buffer) else {
-            let slot = &mut self.slots[place];
-            slot.fault();
+        let index = role.index();
+        let Ok(count) = read_from(&mut self.files[index], buffer) else {
+            self.roles[index].fault();
             return Err(Failed);
         };
         Ok(count)
@@ -144,14 +166,20 @@ impl<R: Files<File = File> + Print + AllocGlobal + Drop> Host for RealHost<R> {
             (λ _. Fails (silent_part self.old role) (silent_part self.new role)) }
         ensures others { (other : Role) → other ≢ role → silent_part self.new other ≡ silent_part self.old other }
         ensures counted { (silent_part self.new role).faults ≡ faults_after (silent_part self.old role).faults result }
+        ensures bytes { WriteAppends
+            (bytes_taken F.contents S.contents self.old role)
+            (bytes_taken F.contents S.contents self.new role) result piece.now }
+        ensures touched { TouchesFile role self.old self.new }
     {
-        let place = role.place();
-        let Ok(count) = write_to(&self.rt, &mut self.opened[place], piece) else {
-            let slot = &mut self.slots[place];
-            slot.fault();
-            return Err(Failed);
+        let index = role.index();
+        let written = match role {
+            Role::Screen => write_to(&mut self.screen, piece),
+            _ => write_to_file(&mut self.files[index], piece),
         };
-        Ok(count)
+        if written.is_err() {
+            self.roles[index].fault();
+        }
+        written
     }
 
     fn finish(&mut self, role: Role) -> Result<(), Failed>
@@ -161,11 +189,12 @@ impl<R: Files<File = File> + Print + AllocGlobal + Drop> Host for RealHost<R> {
             (λ _. Fails (silent_part self.old role) (silent_part self.new role)) }
         ensures others { (other : Role) → other ≢ role → silent_part self.new other ≡ silent_part self.old other }
         ensures counted { (silent_part self.new role).faults ≡ faults_after (silent_part self.old role).faults result }
+        ensures files { (other : Role) → other ≢ role → file_of self.new other ≡ file_of self.old other }
+        ensures screen { self.new.screen ≡ self.old.screen }
     {
-        let place = role.place();
-        self.opened[place] = Opened::Nothing;
-        let slot = &mut self.slots[place];
-        slot.finish();
+        let index = role.index();
+        self.files[index] = None;
+        self.roles[index].finish();
         Ok(())
     }
 }

@@ -1,16 +1,16 @@
 ghost use Rattle.std.specs.Prelude.{◌≡◌, ◌<◌};
-ghost use Rattle.mn_edge.specs.Role.{place_of, is_input};
+ghost use Rattle.mn_edge.specs.Role.{index_of_role, is_input};
 
 /// What a file or a stream is to a command. The order of the roles is the order in which a command uses them.
 #[derive(Clone, Copy, Debug, PartialEq, Eq)]
 pub enum Role {
-    /// The topology that is read, a GML text.
+    /// The topology that is read, a GML file.
     Topology,
-    /// The trace that is read, a pcap text.
+    /// The trace that is read, a pcap file.
     Trace,
     /// The directory that is read: the owner of each pipe.
     Directory,
-    /// The trace that is written, a pcap text.
+    /// The output trace, a pcap file.
     Out,
     /// The report that is written.
     Report,
@@ -22,9 +22,9 @@ impl Role {
     /// How many roles there are.
     pub const COUNT: usize = 6;
 
-    /// The place of the role in the order in which a command uses them, from 0.
-    pub fn place(self) -> usize
-        ensures place { result ≡ place_of self }
+    /// The index of the role in the order in which a command uses them, from 0.
+    pub fn index(self) -> usize
+        ensures index { result ≡ index_of_role self }
         ensures within { result < Self.COUNT }
     {
         self as usize
@@ -34,6 +34,6 @@ impl Role {
     pub fn is_input(self) -> bool
         ensures input { result ≡ is_input self }
     {
-        self.place() < Role::Out.place()
+        self.index() < Role::Out.index()
     }
 }

@@ -1,6 +1,6 @@
 // One role of a host in memory.
 ghost use Rattle.std.specs.Prelude.{◌≡◌, ◌<◌, ◌≤◌, ◌↔◌, ◌⊎◌, ◌-◌, length, min, take, IsErr, IsTrue, IfOk};
-ghost use Rattle.mn_edge.specs.Memory.{fresh, IsFull, after_begin, after_read, after_write, after_finish};
+ghost use Rattle.mn_edge.specs.StreamView.{unused_stream, IsFull, after_begin, after_read, after_write, after_finish};
 
 use crate::host::Failed;
 use mn_base::NoMemory;
@@ -10,7 +10,8 @@ use std::marker::Model;
 /// The longest name that a host in memory takes, in bytes.
 pub const NAME_MAX: usize = 4_096;
 
-/// The bytes to read with how many were taken, the bytes that were written with how many fit, the name, and the counts.
+/// The bytes to read with how many were taken, the bytes that were written with how many fit, the name, and the counts:
+/// of faults, of begins that went well, and of the calls of each kind.
 #[derive(Drop)]
 pub struct Stream {
     input: Vec<u8>,
@@ -21,6 +22,7 @@ pub struct Stream {
     has_name: bool,
     active: bool,
     faults: u64,
+    begun: u64,
     begins: u64,
     reads: u64,
     writes: u64,
@@ -30,9 +32,9 @@ pub struct Stream {
 impl Model for Stream {
     ghost use Rattle.std.specs.Prelude.{◌≤◌, vec_len, vec_capacity, drop, if◌then◌else◌, Some, None};
     ghost use Rattle.mn_edge.specs.declared.stream.TheConstants.{NAME_MAX};
-    ghost use Rattle.mn_edge.specs.Memory.{Held};
+    ghost use Rattle.mn_edge.specs.StreamView.{StreamView};
 
-    ghost Value = { Held };
+    ghost Value = { StreamView };
 
     ghost view = { λ s. record {
       left = drop s.taken s.input.items;
@@ -41,16 +43,20 @@ impl Model for Stream {
       name = (if s.has_name then Some s.name.items else None);
       active = s.active;
       faults = s.faults;
+      begins = s.begun;
       calls = record { begins = s.begins; reads = s.reads; writes = s.writes; finishes = s.finishes };
     } };
 
-    ghost invariant = { λ s. (s.taken ≤ vec_len s.input) × (vec_len s.output ≤ s.room) × (s.room ≤ vec_capacity s.output) × (NAME_MAX ≤ vec_capacity s.name) };
+    ghost invariant = { λ s. (s.taken ≤ vec_len s.input)
+        × (vec_len s.output ≤ s.room)
+        × (s.room ≤ vec_capacity s.output)
+        × (NAME_MAX ≤ vec_capacity s.name) };
 }
 
 impl Stream {
     /// All the memory that the role will need.
     pub fn new(alloc: Global, input: &[u8], room: usize) -> Result<Stream, NoMemory>
-        ensures fresh { IfOk result (λ stream. stream ≡ fresh input.now room) }
+        ensures unused { IfOk result (λ stream. stream ≡ unused_stream input.now room) }
     {
         Ok(Stream {
             input: Vec::from_slice(alloc, input)?,
@@ -61,6 +67,7 @@ impl Stream {
             has_name: false,
             active: false,
             faults: 0,
+            begun: 0,
             begins: 0,
             reads: 0,
             writes: 0,
@@ -99,7 +106,7 @@ impl Stream {
     }
 
     pub fn begin(&mut self, named: bool, name: &str) -> Result<(), Failed>
-        ensures exact { IsErr result ↔ (IsTrue named ⊎ 4096 < length name.now) }
+        ensures exact { IsErr result ↔ (IsTrue named ⊎ NAME_MAX < length name.now) }
         ensures after { self.new ≡ after_begin name.now self.old result }
         ensures later { self.old.faults ≤ self.new.faults }
     {
@@ -112,6 +119,7 @@ impl Stream {
         self.name.extend_from_slice(name.as_bytes()).unwrap();
         self.has_name = true;
         self.active = true;
+        self.begun = self.begun.saturating_add(1);
         Ok(())
     }
 

@@ -5,6 +5,7 @@ use crate::{
     Fail, Failed, Host, MemoryHost, Op, ReadEnd, RealHost, Role, WriteFault, read_all, write_all,
 };
 use mn_base::Bytes;
+use mn_base::limits::TRACE_BYTES_MAX;
 use std::fs;
 use std::process::Abort;
 use std::test::Fail as Failure;
@@ -44,7 +45,7 @@ fn read_trace(
     fails: &[Fail],
     limit: usize,
 ) -> Result<Bytes, ReadEnd>
-    requires { limit ≤ 268_435_456 }
+    requires { limit ≤ TRACE_BYTES_MAX }
 {
     let host = MemoryHost::new(rt.alloc(), &[], trace, &[], fails, 3, 0);
     let Ok(mut host) = host else {
@@ -113,44 +114,64 @@ fn a_whole_write_stops_at_a_fault_and_where_room_ends(rt: HostRuntime) {
     assert_eq!(rt; write_out(&rt, &[second], 16, front), Err(WriteFault));
 }
 
+/// A name of so many letters.
+fn name_of(rt: &impl AllocGlobal, letters: usize) -> Result<String, Failure> {
+    let letters = vec![in rt.alloc(); b'n'; letters]?;
+    Ok(String::from_utf8(letters)?)
+}
+
 #[test]
 fn a_name_has_at_most_4096_bytes(rt: HostRuntime) -> Result<(), Failure> {
-    let letters = vec![in rt.alloc(); b'n'; 4097]?;
-    let long = String::from_utf8(letters)?;
     let host = MemoryHost::new(rt.alloc(), b"", b"", b"", &[], 1, 0);
     let Ok(mut host) = host else {
         panic!(rt; "memory");
     };
+    let long = name_of(&rt, 4097)?;
     refused(&rt, &mut host, Role::Trace, long.as_str());
+    let host = MemoryHost::new(rt.alloc(), b"", b"", b"", &[], 1, 0);
+    let Ok(mut host) = host else {
+        panic!(rt; "memory");
+    };
+    let longest = name_of(&rt, 4096)?;
+    begun(&rt, &mut host, Role::Trace, longest.as_str());
     Ok(())
 }
 
 #[test]
 fn roles_are_in_order(rt: HostRuntime) {
-    assert_eq!(rt; Role::Topology.place(), 0);
-    assert_eq!(rt; Role::Screen.place() + 1, Role::COUNT);
+    assert_eq!(rt; Role::Topology.index(), 0);
+    assert_eq!(rt; Role::Screen.index() + 1, Role::COUNT);
     assert!(rt; Role::Directory.is_input());
     assert!(rt; !Role::Out.is_input());
 }
 
 #[test]
-fn the_real_host_counts_a_missing_file_and_keeps_what_it_writes(
-    rt: HostRuntime,
-) -> Result<(), Failure> {
-    let name = "mn_edge_real_host.bytes";
-    let mut host = RealHost::new(rt.clone()?);
-    refused(&rt, &mut host, Role::Trace, name);
+fn the_real_host_refuses_a_missing_file(rt: HostRuntime) {
+    let mut host = RealHost::new(rt);
+    refused(&rt, &mut host, Role::Trace, "mn_edge_missing.bytes");
+}
 
-    let mut host = RealHost::new(rt.clone()?);
+#[test]
+fn an_output_over_a_longer_file_reads_back_whole(rt: HostRuntime) -> Result<(), Failure> {
+    let name = "mn_edge_real_host.bytes";
+    fs::write(&rt, name, "what an earlier run left")?;
+    let mut host = RealHost::new(rt);
     begun(&rt, &mut host, Role::Out, name);
     written(&rt, &mut host, Role::Out, b"kept");
     finished(&rt, &mut host, Role::Out);
 
-    let mut host = RealHost::new(rt.clone()?);
+    let mut host = RealHost::new(rt);
     begun(&rt, &mut host, Role::Trace, name);
-    let bytes = read_all(rt.alloc(), &mut host, Role::Trace, 4);
+    let bytes = read_all(rt.alloc(), &mut host, Role::Trace, 24);
     fs::remove_file(&rt, name)?;
     let bytes = bytes.ok().ok_or("four bytes")?;
     assert_eq!(rt; bytes.as_slice(), b"kept".as_slice());
     Ok(())
+}
+
+#[test]
+fn a_real_host_over_another_stream_prints_to_it(rt: HostRuntime) {
+    let mut host = RealHost::over(rt, Vec::new(rt.alloc()));
+    begun(&rt, &mut host, Role::Screen, "any name");
+    written(&rt, &mut host, Role::Screen, b"shown");
 }

@@ -5,6 +5,7 @@ ghost use Rattle.mn_edge.specs.Whole.{ReadsWhole, AddsWhole};
 use crate::host::{Host, WriteFault};
 use crate::role::Role;
 use mn_base::Bytes;
+use mn_base::limits::TRACE_BYTES_MAX;
 use std::alloc::Global;
 
 /// Why a role was not read to its end.
@@ -29,7 +30,7 @@ pub fn read_all<H: Host>(
     limit: usize,
 ) -> Result<Bytes, ReadEnd>
     requires active { (H.part host.old role).active ≡ true }
-    requires limit { limit ≤ 268_435_456 }
+    requires limit { limit ≤ TRACE_BYTES_MAX }
     ensures own { ReadsWhole limit (H.part host.old role) (H.part host.new role) result }
     ensures others { (other : Role) → other ≢ role → H.part host.new other ≡ H.part host.old other }
 {
@@ -51,7 +52,7 @@ pub fn read_all<H: Host>(
     }
 }
 
-/// Writes a whole text to an active role.
+/// Writes these bytes whole to an active role.
 pub fn write_all<H: Host>(host: &mut H, role: Role, text: &[u8]) -> Result<(), WriteFault>
     requires active { (H.part host.old role).active ≡ true }
     ensures own { AddsWhole text.now (H.part host.old role) (H.part host.new role) result }

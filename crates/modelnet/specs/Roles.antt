@@ -6,35 +6,47 @@ use Rattle.mn_edge.specs.declared.host.WriteFault.{WriteFault}
 use Rattle.mn_edge.specs.declared.whole.ReadEnd.{ReadEnd}
 use Rattle.mn_edge.specs.declared.whole.ReadEnd.TheVariants.{Fault, TooLarge}
 use Rattle.mn_edge.specs.declared.whole.ReadEnd.TheVariants as end
-use Rattle.mn_edge.specs.Part.{Part}
+use Rattle.mn_edge.specs.Part.{Part, one_more}
 
 -- nothing but the count of faults changed
 pub record IsUntouched (old new : Part) : Type 0 where
   pub later : old.faults ≤ new.faults
   pub same : new ≡ record old { faults = new.faults }
 
--- the role was begun under this name, these bytes of it were taken, and it is still active
+-- the role was begun once, under this name, these bytes of it were taken, and it is still active
 pub record IsReading (name bytes : List ℕ) (old new : Part) : Type 0 where
   pub later : old.faults ≤ new.faults
   pub taken : old.left ≡ prepend_known bytes new.left
-  pub same : new ≡ record old { left = new.left; name = Some name; active = true; faults = new.faults }
+  pub same : new ≡ record old { left = new.left; name = Some name; active = true; faults = new.faults; begins = one_more old.begins }
 
--- the role was begun under this name, all that was left of it were these bytes, which were read, and it was finished
+-- the role was begun once, under this name, all that was left of it were these bytes, which were read, and it was finished
 pub record WasRead (name bytes : List ℕ) (old new : Part) : Type 0 where
   pub later : old.faults ≤ new.faults
   pub taken : old.left ≡ prepend_known bytes new.left
   pub ends : IsAtEnd new.left
-  pub same : new ≡ record old { left = new.left; name = Some name; active = false; faults = new.faults }
+  pub same : new ≡ record old { left = new.left; name = Some name; active = false; faults = new.faults; begins = one_more old.begins }
 
--- the role was begun under this name, its written bytes grew by these, and it is still active
+-- the role was begun once, under this name, its written bytes grew by these, and it is still active
 pub record IsWriting (name bytes : List ℕ) (old new : Part) : Type 0 where
   pub later : old.faults ≤ new.faults
-  pub same : new ≡ record old { written = append_known old.written bytes; name = Some name; active = true; faults = new.faults }
+  pub same : new ≡ record old {
+    written = append_known old.written bytes;
+    name = Some name;
+    active = true;
+    faults = new.faults;
+    begins = one_more old.begins;
+  }
 
--- the role was begun under this name, its written bytes grew by this text, and it was finished
+-- the role was begun once, under this name, its written bytes grew by these, and it was finished
 pub record WasWritten (name text : List ℕ) (old new : Part) : Type 0 where
   pub later : old.faults ≤ new.faults
-  pub same : new ≡ record old { written = append_known old.written text; name = Some name; active = false; faults = new.faults }
+  pub same : new ≡ record old {
+    written = append_known old.written text;
+    name = Some name;
+    active = false;
+    faults = new.faults;
+    begins = one_more old.begins;
+  }
 
 -- reading stopped after so many bytes at most: the role is untouched, or still active
 pub record StopsReading (name : List ℕ) (limit : ℕ) (old new : Part) : Type 0 where

@@ -4,6 +4,7 @@ ghost use Rattle.pcap_io.specs.Writing.{pcap_text};
 ghost use Rattle.modelnet.specs.Roles.{ReadsRole, WritesRole};
 
 use mn_base::Bytes;
+use mn_base::limits::TRACE_BYTES_MAX;
 use mn_edge::{Host, ReadEnd, Role, WriteFault, read_all, write_all};
 use pcap_io::{Trace, write_pcap};
 use std::alloc::Global;
@@ -17,7 +18,7 @@ pub fn read_role<H: Host>(
     limit: usize,
 ) -> Result<Bytes, ReadEnd>
     requires inactive { (H.part host.old role).active ≡ false }
-    requires limit { limit ≤ 268435456 }
+    requires limit { limit ≤ TRACE_BYTES_MAX }
     ensures own { ReadsRole name.now limit (H.part host.old role) (H.part host.new role) result }
     ensures others { (other : Role) → other ≢ role → H.part host.new other ≡ H.part host.old other }
 {

@@ -1,6 +1,6 @@
 ghost use Rattle.std.specs.Prelude.{◌≡◌, ◌≤◌, false};
 ghost use Rattle.mn_edge.specs.declared.role.Role.{Role};
-ghost use Rattle.mn_edge.specs.Memory.{held_of};
+ghost use Rattle.mn_edge.specs.MemoryHostView.{stream_of};
 
 mod bursts;
 
@@ -58,7 +58,7 @@ fn host(
     room: usize,
 ) -> MemoryHost
     requires { 1 ≤ piece }
-    ensures { (role : Role) → (held_of result role).active ≡ false }
+    ensures { (role : Role) → (stream_of result role).active ≡ false }
 {
     let host = MemoryHost::new(rt.alloc(), &[], trace, &[], fails, piece, room);
     host.expect(rt, "memory for a host")
@@ -293,7 +293,7 @@ fn files_are_read_and_written(rt: HostRuntime) {
     let line =
         "chain --trace chain_in.pcap --out chain_out.pcap --report chain.txt 8000000:5000:50:0";
     let words = words_in(&rt, line);
-    let mut host = RealHost::new(rt.clone().expect(&rt, "a second handle"));
+    let mut host = RealHost::new(rt);
     let status = plain(rt.alloc(), &words, &mut host);
     assert_eq!(rt; status, Status::Done);
     let out = fs::read(&rt, "chain_out.pcap").expect(&rt, "the trace out");
@@ -306,7 +306,7 @@ fn files_are_read_and_written(rt: HostRuntime) {
 fn a_missing_file_cannot_be_read(rt: HostRuntime) {
     let line = "chain --trace no_such_file.pcap --out o --report r 8000000:5000:50:0";
     let words = words_in(&rt, line);
-    let mut host = RealHost::new(rt.clone().expect(&rt, "a second handle"));
+    let mut host = RealHost::new(rt);
     let status = plain(rt.alloc(), &words, &mut host);
     assert_eq!(rt; status, Status::ReadFault(Role::Trace));
 }

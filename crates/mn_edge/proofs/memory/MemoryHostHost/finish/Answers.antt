@@ -1,11 +1,11 @@
 use Rattle.std.proofs.Common.{arith, set}
 use Rattle.std.proofs.lemmas.Grind.{common_steps}
-use Rattle.mn_edge.specs.Memory.{Memory, held_of}
-use Rattle.mn_edge.proofs.Held.{Finishes-after}
+use Rattle.mn_edge.specs.MemoryHostView.{MemoryHostView, stream_of}
+use Rattle.mn_edge.proofs.Streams.{Finishes-after}
 use Rattle.mn_edge.proofs.memory.MemoryHostHost.finish.Goals as goal
 
 pub returns-clause-own : goal.returns-clause-own
 returns-clause-own c =
     let host = c.self.inside in
-    let after : Memory = record { fails = host.fails.items; piece = host.piece; roles = set host.streams c.place.result c.finish.new.self } in
-    Finishes-after (held_of c.args.self.now c.args.role) (held_of after c.args.role) c.finish.result (grind (arith, common_steps)) (grind (arith, common_steps))
+    let after : MemoryHostView = record { fails = host.fails.items; piece = host.piece; streams = set host.streams c.index.result c.finish.new.self } in
+    Finishes-after (stream_of c.args.self.now c.args.role) (stream_of after c.args.role) c.finish.result (grind (arith, common_steps)) (grind (arith, common_steps))

@@ -1,6 +1,6 @@
 use Rattle.std.proofs.Common.{◌++◌, [], ◌∷◌, map, take, string_bytes, sym, ◌∙◌, ap}
 use Rattle.std.proofs.lemmas.List.{map_push, map_more}
-use Rattle.modelnet.proofs.lent.Goals as goal
+use Rattle.modelnet.proofs.command_line.lent.Goals as goal
 
 -- both sides have one text more, which is the same
 pub loop-word-preserved : goal.loop-word-preserved
