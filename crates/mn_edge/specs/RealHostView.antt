@@ -21,18 +21,18 @@ abbrev pub file_of : {F S : Type 0} → RealHostView F S → Role → Option F
 file_of host role = slice_index_or host.files (index_of_role role) None
 
 -- the bytes of an open file, where the file tells them
-abbrev pub bytes_of : {F : Type 0} → (F → Option (List ℕ)) → Option F → Option (List ℕ)
-bytes_of told None = None
-bytes_of told (Some file) = told file
+abbrev pub file_bytes : {F : Type 0} → (F → Option (List ℕ)) → Option F → Option (List ℕ)
+file_bytes told None = None
+file_bytes told (Some file) = told file
 
 -- the bytes that the file of a role will give, where it tells them
 abbrev pub bytes_ahead : {F S : Type 0} → (F → Option (List ℕ)) → RealHostView F S → Role → Option (List ℕ)
-bytes_ahead told host role = bytes_of told (file_of host role)
+bytes_ahead told host role = file_bytes told (file_of host role)
 
 -- the bytes that the file of a role, or the stream of Screen, has taken, where it tells them
 abbrev pub bytes_taken : {F S : Type 0} → (F → Option (List ℕ)) → (S → Option (List ℕ)) → RealHostView F S → Role → Option (List ℕ)
 bytes_taken told_by_file told_by_screen host Screen = told_by_screen host.screen
-bytes_taken told_by_file told_by_screen host role = bytes_of told_by_file (file_of host role)
+bytes_taken told_by_file told_by_screen host role = file_bytes told_by_file (file_of host role)
 
 -- the files of all other roles, and the stream of Screen unless it is the role, are as they were
 pub record TouchesFile {F S : Type 0} (role : Role) (old new : RealHostView F S) : Type 0 where

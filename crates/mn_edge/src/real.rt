@@ -3,7 +3,7 @@ ghost use Rattle.std.specs.Prelude.{◌≡◌, ◌≢◌, ◌<◌, ◌≤◌, tr
 ghost use Rattle.std.specs.Io.KnownBytes.{IsAtEnd, ReadConsumes, WriteAppends};
 ghost use Rattle.mn_edge.specs.declared.role.Role.{Role};
 ghost use Rattle.mn_edge.specs.Part.{Fails, Begins, Takes, Adds, Finishes};
-ghost use Rattle.mn_edge.specs.RealHostView.{silent_part, file_of, bytes_of, bytes_ahead, bytes_taken, TouchesFile};
+ghost use Rattle.mn_edge.specs.RealHostView.{silent_part, file_of, file_bytes, bytes_ahead, bytes_taken, TouchesFile};
 ghost use Rattle.mn_edge.specs.RealRoleView.{unused_role, silent, faults_after};
 
 use crate::host::{Failed, Host};
@@ -50,7 +50,7 @@ fn open<R: Files>(rt: &R, role: Role, name: &str) -> io::Result<Option<R::File>>
 
 fn read_from<F: Read>(file: &mut Option<F>, buffer: &mut [u8]) -> Result<usize, Failed>
     ensures within { IfOk result (λ n. n ≤ length buffer.new) }
-    ensures bytes { ReadConsumes (bytes_of F.remaining file.old) (bytes_of F.remaining file.new) result buffer.new }
+    ensures bytes { ReadConsumes (file_bytes F.remaining file.old) (file_bytes F.remaining file.new) result buffer.new }
 {
     match file {
         Some(file) => file.read(buffer).map_err(|_| Failed),
@@ -70,7 +70,7 @@ fn write_to<W: Write>(writer: &mut W, piece: &[u8]) -> Result<usize, Failed>
 
 fn write_to_file<F: Write>(file: &mut Option<F>, piece: &[u8]) -> Result<usize, Failed>
     ensures within { IfOk result (λ n. (1 ≤ n) × (n ≤ length piece.now)) }
-    ensures bytes { WriteAppends (bytes_of F.contents file.old) (bytes_of F.contents file.new) result piece.now }
+    ensures bytes { WriteAppends (file_bytes F.contents file.old) (file_bytes F.contents file.new) result piece.now }
 {
     match file {
         Some(file) => write_to(file, piece),

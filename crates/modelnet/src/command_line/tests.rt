@@ -6,6 +6,7 @@ use crate::words_fault::WordsFault;
 use std::env::{Env, FillError};
 
 /// A system that was started with one word behind the program's name.
+#[derive(Drop)]
 struct Started<'a> {
     word: &'a [u8],
 }
