@@ -4,7 +4,7 @@ use Rattle.std.proofs.lemmas.Option.{same_Some}
 use Rattle.mn_base.specs.declared.refusal.Refusal.{Refusal}
 use Rattle.mn_base.specs.declared.refusal.Refusal.TheVariants as refusal
 use Rattle.mn_base.specs.Refused.{IfFault, Gives, Refuses}
-use Rattle.topo.specs.Topologies.{Graph}
+use Rattle.topo.specs.TopologyView.{TopologyView}
 use Rattle.gml_lex.specs.declared.kinds.Token.{Token}
 use Rattle.gml_lex.specs.Tokens.{AreTokens, IsLexFault}
 use Rattle.gml_lex.proofs.OneReading as lex
@@ -129,12 +129,12 @@ one_topology text topology other a b =
     a.read ∙ ap (λ t. graph_topology text (pairs t)) graph ∙ sym b.read
 
 -- ---- an answer is the only one
-pub gives_topology : (text : List ℕ) (r : Result Graph (Refusal GmlFault)) (topology : Graph) → IfOk r (Reads text) → IfErr r (λ e. IfFault e (IsFirstFault text)) → Reads text topology → Gives topology r
+pub gives_topology : (text : List ℕ) (r : Result TopologyView (Refusal GmlFault)) (topology : TopologyView) → IfOk r (Reads text) → IfErr r (λ e. IfFault e (IsFirstFault text)) → Reads text topology → Gives topology r
 gives_topology text (Ok given) topology read told is = one_topology text given topology read is
 gives_topology text (Err refusal.NoMemory) topology read told is = tt
 gives_topology text (Err (refusal.Fault f)) topology read told is = reads_or_fault text topology f is told
 
-pub gives_fault : (text : List ℕ) (r : Result Graph (Refusal GmlFault)) (f : GmlFault) → IfOk r (Reads text) → IfErr r (λ e. IfFault e (IsFirstFault text)) → IsFirstFault text f → Refuses f r
+pub gives_fault : (text : List ℕ) (r : Result TopologyView (Refusal GmlFault)) (f : GmlFault) → IfOk r (Reads text) → IfErr r (λ e. IfFault e (IsFirstFault text)) → IsFirstFault text f → Refuses f r
 gives_fault text (Ok given) f read told is = reads_or_fault text given f read is
 gives_fault text (Err refusal.NoMemory) f read told is = tt
 gives_fault text (Err (refusal.Fault g)) f read told is = one_fault text g f told is

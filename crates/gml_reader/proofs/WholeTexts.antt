@@ -7,7 +7,7 @@ use Rattle.std.specs.List.{All}
 use Rattle.mn_base.specs.declared.refusal.Refusal.{Refusal}
 use Rattle.mn_base.specs.declared.refusal.Refusal.TheVariants as refusal
 use Rattle.mn_base.specs.Refused.{IfFault}
-use Rattle.topo.specs.Topologies.{Graph}
+use Rattle.topo.specs.TopologyView.{TopologyView}
 use Rattle.gml_lex.specs.declared.kinds.Token.{Token}
 use Rattle.gml_reader.specs.declared.faults.GmlFault.{GmlFault}
 use Rattle.gml_reader.specs.declared.faults.GmlFault.TheVariants as fault
@@ -62,7 +62,7 @@ graph_at len (Some g) s found = record { graph = g; is = refl; list = found.0; t
 pub without_graph : (text : List ℕ) (file : Pairs) → IsTextOf text file → IsGraph (length text) (graph_in text (pairs file)) None → IsFileFault text fault.NoGraph
 without_graph text file tree found = (file, tree, ap (fault_in text) (no_graph (length text) (graph_in text (pairs file)) found))
 
-pub reads_of : (text : List ℕ) (file : Pairs) (tokens : List Token) (r : Result Graph (Refusal GmlFault)) → IsTextOf text file → (g : IsGraphAt (length text) (graph_in text (pairs file)) tokens) → IsGraphRead text (pairs g.graph) r → IfOk r (Reads text)
+pub reads_of : (text : List ℕ) (file : Pairs) (tokens : List Token) (r : Result TopologyView (Refusal GmlFault)) → IsTextOf text file → (g : IsGraphAt (length text) (graph_in text (pairs file)) tokens) → IsGraphRead text (pairs g.graph) r → IfOk r (Reads text)
 reads_of text file tokens (Ok t) tree g read = record {
   file = file;
   is_text = tree;
@@ -73,7 +73,7 @@ reads_of text file tokens (Ok t) tree g read = record {
 }
 reads_of text file tokens (Err e) tree g read = tt
 
-pub fault_of : (text : List ℕ) (file : Pairs) (tokens : List Token) (r : Result Graph (Refusal GmlFault)) → IsTextOf text file → (g : IsGraphAt (length text) (graph_in text (pairs file)) tokens) → IsGraphRead text (pairs g.graph) r → IfErr r (λ e. IfFault e (IsFirstFault text))
+pub fault_of : (text : List ℕ) (file : Pairs) (tokens : List Token) (r : Result TopologyView (Refusal GmlFault)) → IsTextOf text file → (g : IsGraphAt (length text) (graph_in text (pairs file)) tokens) → IsGraphRead text (pairs g.graph) r → IfErr r (λ e. IfFault e (IsFirstFault text))
 fault_of text file tokens (Ok t) tree g read = tt
 fault_of text file tokens (Err refusal.NoMemory) tree g read = tt
 fault_of text file tokens (Err (refusal.Fault f)) tree g read = first_fault_of text file f tree (ap (fault_in text) g.is ∙ read)

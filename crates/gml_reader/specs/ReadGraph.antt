@@ -5,7 +5,7 @@ use Rattle.mn_base.specs.declared.refusal.Refusal.{Refusal}
 use Rattle.mn_base.specs.declared.refusal.Refusal.TheVariants as refusal
 use Rattle.topo.specs.declared.parts.Node.{Node}
 use Rattle.topo.specs.declared.parts.EdgeSpec.{EdgeSpec}
-use Rattle.topo.specs.Topologies.{Graph}
+use Rattle.topo.specs.TopologyView.{TopologyView}
 use Rattle.gml_lex.specs.declared.kinds.Token.{Token}
 use Rattle.gml_reader.specs.declared.graph.Items.{Items}
 use Rattle.gml_reader.specs.declared.faults.GmlFault.{GmlFault}
@@ -46,7 +46,7 @@ AreItems text ps (Err refusal.NoMemory) = Unit {0}
 AreItems text ps (Err (refusal.Fault f)) = items_fault text 0 0 ps ≡ Some f
 
 -- the topology of a graph
-abbrev pub IsGraphRead : List ℕ → List Pair → Result Graph (Refusal GmlFault) → Type 0
+abbrev pub IsGraphRead : List ℕ → List Pair → Result TopologyView (Refusal GmlFault) → Type 0
 IsGraphRead text ps (Ok t) = (graph_fault text ps ≡ None) × (t ≡ graph_topology text ps)
 IsGraphRead text ps (Err refusal.NoMemory) = Unit {0}
 IsGraphRead text ps (Err (refusal.Fault f)) = graph_fault text ps ≡ Some f

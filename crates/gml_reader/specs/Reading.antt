@@ -9,7 +9,8 @@ use Rattle.topo.specs.declared.keys.Key.TheVariants as key
 use Rattle.topo.specs.declared.parts.Node.{Node}
 use Rattle.topo.specs.declared.parts.EdgeSpec.{EdgeSpec}
 use Rattle.topo.specs.Faults.{topo_fault}
-use Rattle.topo.specs.Topologies.{Graph, topology_of}
+use Rattle.topo.specs.TopologyView.{TopologyView}
+use Rattle.topo.specs.Topologies.{topology_of}
 use Rattle.gml_reader.specs.declared.faults.Item.{Item}
 use Rattle.gml_reader.specs.declared.faults.Item.TheVariants as item
 use Rattle.gml_reader.specs.declared.faults.GmlFault.{GmlFault}
@@ -143,7 +144,7 @@ graph_fault text ps =
     option_or (items_fault text 0 0 ps)
     (option_map fault.Topo (topo_fault (nodes_in text ps) (edges_in text ps) (is_directed text ps))))
 
-abbrev pub graph_topology : List ℕ → List Pair → Graph
+abbrev pub graph_topology : List ℕ → List Pair → TopologyView
 graph_topology text ps = topology_of (nodes_in text ps) (edges_in text ps) (is_directed text ps)
 
 abbrev pub fault_in : List ℕ → Option Pairs → Option GmlFault

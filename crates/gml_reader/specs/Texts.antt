@@ -1,6 +1,6 @@
 -- Whole texts: which topology they read to, and their first fault.
 use Rattle.std.specs.Prelude.{◌≡◌, ◌⊎◌, ℕ, List, length, Some, None, slice_get}
-use Rattle.topo.specs.Topologies.{Graph}
+use Rattle.topo.specs.TopologyView.{TopologyView}
 use Rattle.gml_lex.specs.declared.kinds.Token.{Token}
 use Rattle.gml_lex.specs.Tokens.{AreTokens, IsLexFault}
 use Rattle.gml_reader.specs.declared.faults.GmlFault.{GmlFault}
@@ -19,7 +19,7 @@ pub record IsTextOf (text : List ℕ) (file : Pairs) : Type 0 where
   pub shallow : IsShallow tokens
 
 -- the text reads to the topology
-pub record Reads (text : List ℕ) (topology : Graph) : Type 0 where
+pub record Reads (text : List ℕ) (topology : TopologyView) : Type 0 where
   pub file : Pairs
   pub is_text : IsTextOf text file
   pub no_fault : file_fault text file ≡ None

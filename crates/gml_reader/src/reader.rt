@@ -2,7 +2,7 @@ ghost use Rattle.std.specs.Prelude.{◌<◌, ◌≤◌, length, All, IfOk, IfErr
 ghost use Rattle.gml_lex.specs.Tokens.{AreTokens};
 ghost use Rattle.gml_reader.specs.Places.{IsMisplaced};
 ghost use Rattle.mn_base.specs.Refused.{IfFault, Gives, Refuses};
-ghost use Rattle.topo.specs.Topologies.{Graph};
+ghost use Rattle.topo.specs.TopologyView.{TopologyView};
 ghost use Rattle.gml_reader.specs.Texts.{Reads, IsFirstFault};
 
 use crate::faults::GmlFault;
@@ -21,7 +21,7 @@ pub fn read_gml(alloc: Global, text: &[u8]) -> Result<Topology, Refusal<GmlFault
     requires { length text.now ≤ 16777216 }
     ensures read { IfOk result (Reads text.now) }
     ensures fault { IfErr result (λ e. IfFault e (IsFirstFault text.now)) }
-    ensures only_topology { (topology : Graph) → Reads text.now topology → Gives topology result }
+    ensures only_topology { (topology : TopologyView) → Reads text.now topology → Gives topology result }
     ensures only_fault { (fault : GmlFault) → IsFirstFault text.now fault → Refuses fault result }
 {
     let tokens = match tokens(alloc, text) {

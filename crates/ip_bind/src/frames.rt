@@ -1,10 +1,9 @@
-ghost use Rattle.std.specs.Prelude.{◌≡◌, ◌⊎◌, ◌+◌, ◌≤◌, length};
+ghost use Rattle.std.specs.Prelude.{◌≡◌, ◌+◌, ◌≤◌, length};
+ghost use Rattle.mn_base.specs.Ranges.{IsLinkType};
 ghost use Rattle.ip_bind.specs.Frames.{ether_type, address_at, addresses_of_header, addresses_of};
 
 use mn_base::Unbound;
-
-/// The link type of Ethernet, as pcap numbers them.
-const ETHERNET: u32 = 1;
+use mn_base::limits::LINK_TYPE_ETHERNET;
 
 /// The length of an Ethernet header, in bytes.
 const ETHERNET_HEADER_BYTES: usize = 14;
@@ -21,10 +20,10 @@ const IPV4_HEADER_BYTES: usize = 20;
 /// were captured. It is `Short` where they end within the Ethernet header or within the first 20 bytes of the IPv4
 /// header, and `NotIpv4` where the EtherType isn't that of IPv4 or the version isn't 4, whichever is met first.
 pub fn addresses(link_type: u32, frame: &[u8]) -> Result<(u32, u32), Unbound>
-    requires { (link_type ≡ 1) ⊎ (link_type ≡ 101) ⊎ (link_type ≡ 228) }
+    requires { IsLinkType link_type }
     ensures { result ≡ addresses_of link_type frame.now }
 {
-    if link_type != ETHERNET {
+    if link_type != LINK_TYPE_ETHERNET {
         return addresses_of_header(frame);
     }
     if frame.len() < ETHERNET_HEADER_BYTES {

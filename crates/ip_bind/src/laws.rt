@@ -2,12 +2,12 @@
 
 ghost use Rattle.ip_bind.specs.Laws.{AddressNamesNode, AddressOfNoNode};
 
-/// In a topology an address finds a node exactly where that node has it.
+/// In a topology an address finds a node if and only if that node has it.
 pub fn address_names_node()
     ensures { AddressNamesNode }
 {}
 
-/// An address finds no node exactly where no node has it.
+/// An address finds no node if and only if no node has it.
 pub fn address_of_no_node()
     ensures { AddressOfNoNode }
 {}

@@ -1,6 +1,6 @@
-// The addresses of captured frames, and the nodes of a topology by their addresses.
-// It stands on topo and mn_base.
-// Its contracts speak in `addresses_of` (specs/Frames.antt) and `node_with_address` (specs/Books.antt).
+//! The addresses of captured frames, and the nodes of a topology by their addresses.
+//! It stands on topo and mn_base.
+//! Its contracts speak in `addresses_of` (specs/Frames.antt) and `node_with_address` (specs/Books.antt).
 #![tactic(auto)]
 
 mod book;

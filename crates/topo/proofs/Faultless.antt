@@ -38,26 +38,32 @@ find_among nodes id (k, node, within, is, same) =
 
 -- ---- no fault at a place
 -- a test that no earlier element passes
-none_before : (p : Node → Bool) (nodes : List Node) (i : ℕ) (d : Node) → i < length nodes → ((k : ℕ) → k < i → p (get_or nodes k d) ≡ true → ⊥) → (b : Bool) → list_any p (take i nodes) ≡ b → b ≡ false
+none_before : (p : Node → Bool) (nodes : List Node) (i : ℕ) (d : Node) → i < length nodes
+    → ((k : ℕ) → k < i → p (get_or nodes k d) ≡ true → ⊥) → (b : Bool) → list_any p (take i nodes) ≡ b → b ≡ false
 none_before p nodes i d within none false e = refl
 none_before p nodes i d within none true e =
     let found = Any-from_list_any p (take i nodes) e in
     let before : found.0 < i = omega (arith, length-take i nodes, found.2) in
-    let is : get_or nodes found.0 d ≡ found.1 = get_or_default nodes found.0 d found.1 (omega arith) ∙ sym (get_or-take i nodes found.0 found.1 before) ∙ found.3 in
+    let is : get_or nodes found.0 d ≡ found.1 =
+    get_or_default nodes found.0 d found.1 (omega arith) ∙ sym (get_or-take i nodes found.0 found.1 before) ∙ found.3 in
     absurd (none found.0 before (ap p is ∙ found.4))
 
-new_id : (nodes : List Node) (i : ℕ) (d : Node) → AllPairs (λ a b. a.id ≢ b.id) nodes → i < length nodes → id_fault nodes i (get_or nodes i d) ≡ None
+new_id : (nodes : List Node) (i : ℕ) (d : Node) → AllPairs (λ a b. a.id ≢ b.id) nodes → i < length nodes
+    → id_fault nodes i (get_or nodes i d) ≡ None
 new_id nodes i d differ within =
     let node = get_or nodes i d in
     rw (none_before (has_id node.id) nodes i d within (λ k before same. differ k i d before within (same_number _ _ same)) _ refl) refl
 
-new_address : (nodes : List Node) (i : ℕ) (d : Node) → AllPairs DifferInAddress nodes → i < length nodes → address_fault nodes i (get_or nodes i d) ≡ None
+new_address : (nodes : List Node) (i : ℕ) (d : Node) → AllPairs DifferInAddress nodes → i < length nodes
+    → address_fault nodes i (get_or nodes i d) ≡ None
 new_address nodes i d differ within = let node = get_or nodes i d in by_address node.address refl
   where
-    by_address : (o : Option ℕ) → (let node = get_or nodes i d in node.address ≡ o) → option_and_then (λ a. if list_any (has_address a) (take i nodes) then Some (DuplicateAddress i) else None) o ≡ None
+    by_address : (o : Option ℕ) → (let node = get_or nodes i d in node.address ≡ o)
+        → option_and_then (λ a. if list_any (has_address a) (take i nodes) then Some (DuplicateAddress i) else None) o ≡ None
     by_address None has = refl
     by_address (Some a) has =
-        rw (none_before (has_address a) nodes i d within (λ k before same. differ k i d before within a (address_is _ a same) has) _ refl) refl
+        rw (none_before (has_address a) nodes i d within (λ k before same. differ k i d before within a (address_is _ a same) has) _ refl)
+        refl
 
 skip : {F : Type 0} (b : Bool) (f : F) (rest : Option F) → b ≡ true → rest ≡ None → (if not b then Some f else rest) ≡ None
 skip true f rest t e = e
@@ -69,7 +75,8 @@ both_true false b ta tb = ta
 
 fine_edge : (nodes : List Node) (e : ℕ) (edge : EdgeSpec) → IsEdgeAmong nodes edge → edge_fault (node_with nodes) e edge ≡ None
 fine_edge nodes e edge is =
-    skip (is_some (node_with nodes edge.source) && is_some (node_with nodes edge.target)) _ _ (both_true _ _ (find_among nodes edge.source is.source) (find_among nodes edge.target is.target)) (
+    skip (is_some (node_with nodes edge.source) && is_some (node_with nodes edge.target)) _ _
+    (both_true _ _ (find_among nodes edge.source is.source) (find_among nodes edge.target is.target)) (
     skip (is_bandwidth edge.bps) _ _ (bandwidth_passes edge.bps is.values.bandwidth) (
     skip (is_latency edge.latency_us) _ _ (latency_passes edge.latency_us is.values.latency) (
     skip (is_queue_limit edge.queue) _ _ (queue_limit_passes edge.queue is.values.queue_limit) (
@@ -80,25 +87,40 @@ neither : {F : Type 0} (a b : Option F) → a ≡ None → b ≡ None → option
 neither None b none_a none_b = none_b
 neither (Some f) b none_a none_b = none_a
 
-no_first : {X F : Type 0} (fault : ℕ → X → Option F) (n : ℕ) (xs : List X) → ((i : ℕ) (d : X) → i < length xs → fault (n + i) (get_or xs i d) ≡ None) → first_fault fault n xs ≡ None
+no_first : {X F : Type 0} (fault : ℕ → X → Option F) (n : ℕ) (xs : List X)
+    → ((i : ℕ) (d : X) → i < length xs → fault (n + i) (get_or xs i d) ≡ None) → first_fault fault n xs ≡ None
 no_first fault n [] each = refl
 no_first fault n (x ∷ xs) each =
     let first : n + 0 ≡ n = omega arith in
-    neither (fault n x) _ (subst (λ m. fault m x ≡ None) first (each 0 x (omega arith))) (no_first fault (n + 1) xs (λ i d within. let later : n + suc i ≡ (n + 1) + i = omega arith in subst (λ m. fault m (get_or xs i d) ≡ None) later (each (suc i) d (omega arith))))
+    neither (fault n x) _ (subst (λ m. fault m x ≡ None) first (each 0 x (omega arith)))
+    (no_first fault (n + 1) xs
+    (λ i d within. let later : n + suc i ≡ (n + 1) + i = omega arith in subst (λ m. fault m (get_or xs i d) ≡ None) later
+    (each (suc i) d (omega arith))))
 
-from_0 : {X F : Type 0} (fault : ℕ → X → Option F) (xs : List X) → ((i : ℕ) (d : X) → i < length xs → fault i (get_or xs i d) ≡ None) → first_fault fault 0 xs ≡ None
+from_0 : {X F : Type 0} (fault : ℕ → X → Option F) (xs : List X) → ((i : ℕ) (d : X) → i < length xs → fault i (get_or xs i d) ≡ None)
+    → first_fault fault 0 xs ≡ None
 from_0 fault xs each =
-    no_first fault 0 xs (λ i d within. let same : i ≡ 0 + i = omega arith in subst (λ m. fault m (get_or xs i d) ≡ None) same (each i d within))
+    no_first fault 0 xs
+    (λ i d within. let same : i ≡ 0 + i = omega arith in subst (λ m. fault m (get_or xs i d) ≡ None) same (each i d within))
 
-few_enough : {F : Type 0} (limit n : ℕ) (f : F) (rest : Option F) → n ≤ limit → rest ≡ None → (if nat_lt limit n then Some f else rest) ≡ None
+few_enough : {F : Type 0} (limit n : ℕ) (f : F) (rest : Option F) → n ≤ limit → rest ≡ None
+    → (if nat_lt limit n then Some f else rest) ≡ None
 few_enough limit n f rest few none = rw (le-ltb limit n few) none
 
-faultless : (nodes : List Node) (edges : List EdgeSpec) (directed : Bool) → MakeTopology nodes edges directed → topo_fault nodes edges directed ≡ None
+faultless : (nodes : List Node) (edges : List EdgeSpec) (directed : Bool) → MakeTopology nodes edges directed
+    → topo_fault nodes edges directed ≡ None
 faultless nodes edges directed make =
-    neither (node_count_fault nodes) _ (few_enough NODES_MAX (length nodes) _ _ make.few_nodes (few_enough EDGE_NODES_MAX (count_by is_edge_node nodes) _ None make.few_edge_nodes refl)) (
+    neither (node_count_fault nodes) _
+    (few_enough NODES_MAX (length nodes) _ _ make.few_nodes
+    (few_enough EDGE_NODES_MAX (count_by is_edge_node nodes) _ None make.few_edge_nodes refl))
+    (
     neither (first_fault (id_fault nodes) 0 nodes) _ (from_0 (id_fault nodes) nodes (λ i d within. new_id nodes i d make.ids within)) (
-    neither (first_fault (address_fault nodes) 0 nodes) _ (from_0 (address_fault nodes) nodes (λ i d within. new_address nodes i d make.addresses within)) (
-    neither (first_fault (edge_fault (node_with nodes)) 0 edges) _ (from_0 (edge_fault (node_with nodes)) edges (λ i d within. fine_edge nodes i _ (All-get_or (IsEdgeAmong nodes) edges i d within make.edges_hold))) (
+    neither (first_fault (address_fault nodes) 0 nodes) _
+    (from_0 (address_fault nodes) nodes (λ i d within. new_address nodes i d make.addresses within)) (
+    neither (first_fault (edge_fault (node_with nodes)) 0 edges) _
+    (from_0 (edge_fault (node_with nodes)) edges
+    (λ i d within. fine_edge nodes i _ (All-get_or (IsEdgeAmong nodes) edges i d within make.edges_hold)))
+    (
     few_enough LINKS_MAX (length (links_of directed (node_with nodes) edges)) _ None make.few_links refl))))
 
 -- ---- no fault makes a topology
@@ -112,7 +134,8 @@ edge_among nodes edge ok = record {
   values = ok.values;
 }
 
-make_topology : (nodes : List Node) (edges : List EdgeSpec) (directed : Bool) → topo_fault nodes edges directed ≡ None → MakeTopology nodes edges directed
+make_topology : (nodes : List Node) (edges : List EdgeSpec) (directed : Bool) → topo_fault nodes edges directed ≡ None
+    → MakeTopology nodes edges directed
 make_topology nodes edges directed none =
     let valid = topology_is_valid nodes edges directed none in
     let parts = has_no_fault nodes edges directed none in
@@ -121,7 +144,9 @@ make_topology nodes edges directed none =
       few_edge_nodes = valid.few_edge_nodes;
       ids = valid.ids;
       addresses = valid.addresses;
-      edges_hold = All-from_get_or (IsEdgeAmong nodes) edges no_edge (λ i within. edge_among nodes (get_or edges i no_edge) (faultless_at (node_with nodes) edges i no_edge parts.edges within));
+      edges_hold =
+          All-from_get_or (IsEdgeAmong nodes) edges no_edge
+          (λ i within. edge_among nodes (get_or edges i no_edge) (faultless_at (node_with nodes) edges i no_edge parts.edges within));
       few_links = valid.few_links;
     }
 

@@ -38,5 +38,6 @@ faultless find e edge none =
       };
     }
 
-pub faultless_at : (find : ℕ → Option ℕ) (edges : List EdgeSpec) (i : ℕ) (d : EdgeSpec) → first_fault (edge_fault find) 0 edges ≡ None → i < length edges → IsFaultless find (get_or edges i d)
+pub faultless_at : (find : ℕ → Option ℕ) (edges : List EdgeSpec) (i : ℕ) (d : EdgeSpec) → first_fault (edge_fault find) 0 edges ≡ None
+    → i < length edges → IsFaultless find (get_or edges i d)
 faultless_at find edges i d none here = faultless find (0 + i) (get_or edges i d) (first_fault-None (edge_fault find) 0 edges i d none here)

@@ -1,3 +1,4 @@
+pub mod EdgeNodes
 pub mod Firsts
 pub mod SeenIds
 pub mod InRange

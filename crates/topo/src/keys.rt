@@ -1,3 +1,5 @@
+ghost use Rattle.std.specs.Prelude.{◌≡◌};
+
 /// The keys that are read of a topology.
 #[derive(Clone, Copy, Debug, PartialEq, Eq)]
 pub enum Key {
@@ -23,4 +25,27 @@ pub enum Key {
     Queue,
     /// The loss of an edge, in ppm.
     Loss,
+}
+
+impl Key {
+    ghost use Rattle.topo.specs.Keys.{key_name};
+
+    /// The key as GML spells it.
+    pub fn name(self) -> &'static str
+        ensures { result.now ≡ key_name self }
+    {
+        match self {
+            Key::Directed => "directed",
+            Key::Node => "node",
+            Key::Edge => "edge",
+            Key::Id => "id",
+            Key::Address => "address",
+            Key::Source => "source",
+            Key::Target => "target",
+            Key::Bandwidth => "bandwidth",
+            Key::Latency => "latency",
+            Key::Queue => "queue",
+            Key::Loss => "loss",
+        }
+    }
 }

@@ -1,4 +1,4 @@
-use crate::{EdgeSpec, Key, Link, Many, Node, TopoFault, Topology};
+use crate::{EdgeSpec, Key, Link, Many, Node, TopoFault, Topology, laws};
 use mn_base::Refusal;
 use std::alloc::{AllocError, Global};
 use std::test::Fail;
@@ -193,4 +193,26 @@ fn limits(rt: HostRuntime) -> Result<(), Fail> {
         assert_eq!(rt; found, fault);
     }
     Ok(())
+}
+
+#[test]
+fn keys_as_gml_spells_them(rt: HostRuntime) {
+    laws::faultless_make_topology();
+    laws::edge_nodes_in_order();
+    let keys = [
+        (Key::Directed, "directed"),
+        (Key::Node, "node"),
+        (Key::Edge, "edge"),
+        (Key::Id, "id"),
+        (Key::Address, "address"),
+        (Key::Source, "source"),
+        (Key::Target, "target"),
+        (Key::Bandwidth, "bandwidth"),
+        (Key::Latency, "latency"),
+        (Key::Queue, "queue"),
+        (Key::Loss, "loss"),
+    ];
+    for (key, name) in keys {
+        assert_eq!(rt; key.name(), name);
+    }
 }

@@ -1,9 +1,11 @@
-ghost use Rattle.std.specs.Prelude.{◌≡◌, ◌<◌, ◌^◌, length, vec_len, Some, None, IfOk, OnOk, IfErr};
+ghost use Rattle.std.specs.Prelude.{◌≡◌, ◌<◌, ◌≤◌, ◌^◌, length, vec_len, Some, None, All, IfOk, OnOk, IfErr};
+ghost use Rattle.std.specs.List.{count_by};
 ghost use Rattle.mn_base.specs.Refused.{IfFault};
 ghost use Rattle.topo.specs.Faults.{topo_fault};
 ghost use Rattle.topo.specs.Links.{links_of};
-ghost use Rattle.topo.specs.Nodes.{node_with};
-ghost use Rattle.topo.specs.Topologies.{IsTopology, topology_of};
+ghost use Rattle.mn_base.specs.declared.limits.TheConstants.{NODES_MAX, EDGE_NODES_MAX, LINKS_MAX};
+ghost use Rattle.topo.specs.Nodes.{is_edge_node, node_with};
+ghost use Rattle.topo.specs.Topologies.{IsLink, IsTopology, topology_of};
 
 use crate::counts::node_count_fault;
 use crate::edges::first_edge_fault;
@@ -23,9 +25,10 @@ pub struct Topology {
 }
 
 impl Model for Topology {
-    ghost use Rattle.topo.specs.Topologies.{Graph, IsTopology};
+    ghost use Rattle.topo.specs.TopologyView.{TopologyView};
+    ghost use Rattle.topo.specs.Topologies.{IsTopology};
 
-    ghost Value = { Graph };
+    ghost Value = { TopologyView };
 
     ghost view = { λ t. record { nodes = t.nodes.items; links = t.links.items } };
 
@@ -58,6 +61,8 @@ impl Topology {
     /// The nodes, by their numbers.
     pub fn nodes(&self) -> &[Node]
         ensures lent { result.now ≡ self.now.nodes }
+        ensures few { length result.now ≤ NODES_MAX }
+        ensures few_edge_nodes { count_by is_edge_node result.now ≤ EDGE_NODES_MAX }
         ensures valid { IsTopology self.now }
     {
         &self.nodes
@@ -66,6 +71,8 @@ impl Topology {
     /// The links, by their numbers.
     pub fn links(&self) -> &[Link]
         ensures lent { result.now ≡ self.now.links }
+        ensures few { length result.now ≤ LINKS_MAX }
+        ensures hold { All (IsLink (length self.now.nodes)) result.now }
         ensures valid { IsTopology self.now }
     {
         &self.links
