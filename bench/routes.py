@@ -1,5 +1,5 @@
 #!/usr/bin/env python3
-"""Times `Routes::toward` on its largest graph beside NetworkX, which finds the same weights.
+"""Times routes on the largest graph, and toward each of 4,096 nodes over 32,768 arcs, beside NetworkX, which finds the same weights.
 
 usage: bench/routes.py      needs `rt`, and NetworkX (Debian's python3-networkx) for the second part
 """
@@ -10,15 +10,17 @@ import time
 from pathlib import Path
 
 ROOT = Path(__file__).resolve().parent.parent
-NODES, ARCS = 4096, 262_144
+NODES, ARCS, LINKS = 4096, 262_144, 32_768
+SOME = 32  # destinations that NetworkX is timed on
 
-PROGRAM = r"""// Times the routes to node 0 of a graph of 4,096 nodes and 262,144 arcs, and prints what the walks weigh together.
+PROGRAM = r"""// Times the routes to node 0 of a graph of 4,096 nodes and 262,144 arcs, and to each node over the first 32,768 of the arcs, and
+// prints what walks weigh together.
 #![tactic(auto)]
 
 ghost use Rattle.std.specs.Prelude.{◌≡◌, ◌≤◌, length, IfOk};
 
 use mn_base::NoMemory;
-use routes::{Arc, Graph, Routes};
+use routes::{Arc, Graph, Incoming, Routes};
 use std::alloc::{AllocError, Global};
 use std::time::Instant;
 
@@ -28,10 +30,10 @@ fn next(state: u64) -> u64 {
         .wrapping_add(1_442_695_040_888_963_407)
 }
 
-fn ends(alloc: Global) -> Result<Vec<(u32, u32, u64)>, AllocError> {
+fn ends(alloc: Global, count: u32) -> Result<Vec<(u32, u32, u64)>, AllocError> {
     let mut state = 1u64;
     let mut ends = Vec::new(alloc);
-    for _ in 0..262_144u32 {
+    for _ in 0..count {
         let from = next(state);
         let to = next(from);
         state = next(to);
@@ -69,12 +71,38 @@ fn weight_of(walk: &[u32], ends: &[(u32, u32, u64)]) -> u64 {
     total
 }
 
+/// What the walks from node 0 to each node weigh together.
+fn to_each(alloc: Global, graph: &Graph, ends: &[(u32, u32, u64)]) -> Result<u64, NoMemory>
+    requires { graph.now.nodes ≡ 4096 }
+{
+    let incoming = Incoming::new(alloc, graph)?;
+    let mut total = 0u64;
+    for destination in 0..4_096u32 {
+        let routes = Routes::by_incoming(alloc, &incoming, destination)?;
+        if let Some(walk) = routes.walk(alloc, 0)? {
+            total = total.saturating_add(weight_of(&walk, ends));
+        }
+    }
+    Ok(total)
+}
+
 fn main(rt: HostRuntime) -> anyhow::Result<()> {
     let alloc = rt.alloc();
-    let ends = ends(alloc)?;
-    if ends.len() > 262_144 {
+    let few = ends(alloc, 32_768)?;
+    let ends = ends(alloc, 262_144)?;
+    if few.len() > 262_144 || ends.len() > 262_144 {
         return Ok(());
     }
+    let Ok(links) = graph_of(alloc, 4_096, &few) else {
+        anyhow::bail!("no memory");
+    };
+    let begin = Instant::now(&rt)?;
+    let Ok(total) = to_each(alloc, &links, &few) else {
+        anyhow::bail!("no memory");
+    };
+    let all = begin.elapsed(&rt)?;
+    println!(rt; "toward each of 4,096 nodes over 32,768 arcs {} us", all.as_micros())?;
+    println!(rt; "weight {total}")?;
     let Ok(graph) = graph_of(alloc, 4_096, &ends) else {
         anyhow::bail!("no memory");
     };
@@ -102,7 +130,7 @@ fn main(rt: HostRuntime) -> anyhow::Result<()> {
 # What the program's loop over the ends keeps.
 INVARIANT = """use Rattle.std.proofs.Common.{◌≤◌, length}
 use Rattle.std.specs.List.{All}
-use Rattle.routes.specs.Digraph.{IsArcAmong}
+use Rattle.routes.specs.GraphView.{IsArcAmong}
 use Rattle.time_routes.proofs.graph_of.Given as goal
 
 abbrev pub invariant-loop-from : goal.invariant-loop-from
@@ -110,9 +138,9 @@ invariant-loop-from l = (length l.arcs.items ≤ l.from-index) × All (IsArcAmon
 """
 
 
-def arcs():
+def arcs(count):
     state = 1
-    for _ in range(ARCS):
+    for _ in range(count):
         parts = []
         for _ in range(3):
             state = (state * 6364136223846793005 + 1442695040888963407) % 2**64
@@ -135,14 +163,28 @@ def ours() -> None:
         print(done.stdout, end="")
 
 
-def networkx() -> None:
+def reversed_graph(count):
     import networkx
 
     graph = networkx.DiGraph()
     graph.add_nodes_from(range(NODES))
-    for start, end, weight in arcs():  # against their direction, the lightest of parallel arcs
+    for start, end, weight in arcs(count):  # against their direction, the lightest of parallel arcs
         if not graph.has_edge(end, start) or weight < graph[end][start]["weight"]:
             graph.add_edge(end, start, weight=weight)
+    return graph
+
+
+def networkx() -> None:
+    import networkx
+
+    links = reversed_graph(LINKS)
+    begin = time.perf_counter()
+    for destination in range(SOME):
+        networkx.single_source_dijkstra_path_length(links, destination)
+    print(f"NetworkX {networkx.__version__}, toward {SOME} nodes: {(time.perf_counter() - begin) * 1e6:.0f} us")
+    found = networkx.single_source_dijkstra_path_length(links.reverse(), 0)
+    print(f"weight {sum(found.values())}")
+    graph = reversed_graph(ARCS)
     begin = time.perf_counter()
     found = networkx.single_source_dijkstra_path_length(graph, 0)
     print(f"NetworkX {networkx.__version__}: {(time.perf_counter() - begin) * 1e6:.0f} us")

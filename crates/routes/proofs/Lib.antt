@@ -6,6 +6,7 @@ pub mod Offering
 pub mod OneLeastWalk
 pub mod QueueSteps
 pub mod Relaxing
+pub mod SameLatency
 pub mod SearchSteps
 pub mod Settling
 pub mod Starting

@@ -3,6 +3,7 @@ pub mod Laws
 pub mod LeastWalk
 pub mod NodeQueue
 pub mod RoutesView
+pub mod SameLatency
 pub mod Search
 pub mod Searching
 pub mod Table
