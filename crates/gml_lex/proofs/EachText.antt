@@ -3,7 +3,7 @@ use Rattle.std.proofs.Common.{◌≡◌, ◌≤◌, ◌⊎◌, ℕ, zero, suc, L
 use Rattle.gml_lex.specs.declared.pieces.Piece.{Piece}
 use Rattle.gml_lex.specs.Pieces.{piece_at, Pieces, place_behind}
 use Rattle.gml_lex.specs.declared.kinds.Token.{Token}
-use Rattle.gml_lex.specs.Tokens.{tokens_of, AreTokens, IsLexFault, IsAnswered}
+use Rattle.gml_lex.specs.Tokens.{tokens_of, AreTokens, IsLexFault, EachTextIsAnswered}
 use Rattle.gml_lex.proofs.PieceLengths.{fits_at}
 use Rattle.gml_lex.proofs.OneReading.{piece_at-nil}
 
@@ -19,7 +19,8 @@ cut : (n : ℕ) (text : List ℕ) → length text ≤ n → Cut text
 cut zero [] short = record { pieces = []; rest = []; front = refl; stuck = piece_at-nil }
 cut zero (b ∷ bs) short = absurd (omega arith)
 cut (suc n) text short =
-    by_piece (piece_at text) refl (λ p here. let fits = fits_at text p here in cut n (drop p.len text) (omega (arith, length-drop p.len text, fits.least, fits.most)))
+    by_piece (piece_at text) refl
+    (λ p here. let fits = fits_at text p here in cut n (drop p.len text) (omega (arith, length-drop p.len text, fits.least, fits.most)))
   where
     by_piece : (o : Option Piece) → piece_at text ≡ o → ((p : Piece) → piece_at text ≡ Some p → Cut (drop p.len text)) → Cut text
     by_piece None here later = record { pieces = []; rest = text; front = refl; stuck = here }
@@ -35,5 +36,5 @@ answered text pieces [] front stuck = inl (tokens_of 0 pieces, record { pieces =
 answered text pieces (b ∷ bs) front stuck =
     inr (place_behind 0 pieces, record { pieces = pieces; rest = b ∷ bs; front = front; more = λ e. cc; stuck = stuck; place_is = refl })
 
-pub is_answered : IsAnswered
-is_answered text = let c = cut (length text) text (omega arith) in answered text c.pieces c.rest c.front c.stuck
+pub each_text_is_answered : EachTextIsAnswered
+each_text_is_answered text = let c = cut (length text) text (omega arith) in answered text c.pieces c.rest c.front c.stuck

@@ -22,13 +22,15 @@ when P false p fact = tt
 
 text_fits : (b : ℕ) (bs : List ℕ) → IfSome (text_at bs) (Fits (b ∷ bs))
 text_fits b bs =
-    when (Fits (b ∷ bs)) (nat_lt (prefix_len isnt_quote bs) (length bs)) _ (λ ends. let before : prefix_len isnt_quote bs < length bs = ltb-true _ _ ends in record { least = omega arith; most = omega arith })
+    when (Fits (b ∷ bs)) (nat_lt (prefix_len isnt_quote bs) (length bs)) _
+    (λ ends. let before : prefix_len isnt_quote bs < length bs = ltb-true _ _ ends in record { least = omega arith; most = omega arith })
 
 no_empty_word : (k : TokenKind) → kind_of_word [] ≡ Some k → ⊥
 unfolding kind_of_word
 no_empty_word k e = cc
 
-word_of_kind : (text : List ℕ) (n : ℕ) (o : Option TokenKind) → n ≤ length text → o ≡ kind_of_word (take n text) → IfSome (option_map (token_piece n) o) (Fits text)
+word_of_kind : (text : List ℕ) (n : ℕ) (o : Option TokenKind) → n ≤ length text → o ≡ kind_of_word (take n text)
+    → IfSome (option_map (token_piece n) o) (Fits text)
 word_of_kind text n None most e = tt
 word_of_kind text zero (Some k) most e = absurd (no_empty_word k (sym e))
 word_of_kind text (suc n) (Some k) most e = record { least = omega arith; most = most }

@@ -21,16 +21,19 @@ starts_from least place [] below = All-nil (StartsFrom least)
 starts_from least place (p ∷ pieces) below =
     by_kind p.kind (tokens_of (place + p.len) pieces) (starts_from least (place + p.len) pieces (omega arith))
   where
-    by_kind : (o : Option TokenKind) (later : List Token) → All (StartsFrom least) later → All (StartsFrom least) (option_map_or (λ k. token place (place + p.len) k ∷ []) o [] ++ later)
+    by_kind : (o : Option TokenKind) (later : List Token) → All (StartsFrom least) later
+        → All (StartsFrom least) (option_map_or (λ k. token place (place + p.len) k ∷ []) o [] ++ later)
     by_kind None later rest = rest
     by_kind (Some k) later rest = All-cons (StartsFrom least) _ later below rest
 
 in_order : (place : ℕ) (pieces : List Piece) → AllPairs EndsBefore (tokens_of place pieces)
 in_order place [] = λ i j d before within. absurd (omega arith)
 in_order place (p ∷ pieces) =
-    by_kind p.kind (tokens_of (place + p.len) pieces) (starts_from (place + p.len) (place + p.len) pieces (omega arith)) (in_order (place + p.len) pieces)
+    by_kind p.kind (tokens_of (place + p.len) pieces) (starts_from (place + p.len) (place + p.len) pieces (omega arith))
+    (in_order (place + p.len) pieces)
   where
-    by_kind : (o : Option TokenKind) (later : List Token) → All (StartsFrom (place + p.len)) later → AllPairs EndsBefore later → AllPairs EndsBefore (option_map_or (λ k. token place (place + p.len) k ∷ []) o [] ++ later)
+    by_kind : (o : Option TokenKind) (later : List Token) → All (StartsFrom (place + p.len)) later → AllPairs EndsBefore later
+        → AllPairs EndsBefore (option_map_or (λ k. token place (place + p.len) k ∷ []) o [] ++ later)
     by_kind None later from ordered = ordered
     by_kind (Some k) later from ordered = AllPairs-cons EndsBefore (token place (place + p.len) k) later from ordered
 

@@ -1,6 +1,10 @@
 -- The tokens of a text, and the place of its first fault.
-use Rattle.std.specs.Prelude.{◌≡◌, ◌≢◌, ℕ, ◌+◌, ◌≤◌, ◌⊎◌, List, [], ◌∷◌, ◌++◌, None, AllPairs}
+use Rattle.std.specs.Prelude.{◌≡◌, ◌≢◌, ℕ, ◌+◌, ◌≤◌, ◌⊎◌, List, [], ◌∷◌, ◌++◌, None, Result, Ok, Err, AllPairs}
 use Rattle.std.specs.Option.{option_map_or}
+use Rattle.std.specs.declared.vec.Vec.{Vec}
+use Rattle.mn_base.specs.declared.refusal.Refusal.{Refusal}
+use Rattle.mn_base.specs.declared.refusal.Refusal.TheVariants as refusal
+use Rattle.gml_lex.specs.declared.faults.LexFault.{LexFault}
 use Rattle.gml_lex.specs.declared.kinds.TokenKind.{TokenKind}
 use Rattle.gml_lex.specs.declared.kinds.Token.{Token}
 use Rattle.gml_lex.specs.declared.pieces.Piece.{Piece}
@@ -33,21 +37,28 @@ pub record IsLexFault (text : List ℕ) (place : ℕ) : Type 0 where
   pub stuck : piece_at rest ≡ None
   pub place_is : place ≡ place_behind 0 pieces
 
--- no text has both tokens and a fault
-abbrev pub TokensOrFault : Type 0
-TokensOrFault = (text : List ℕ) (tokens : List Token) (place : ℕ) → AreTokens text tokens → IsLexFault text place → ⊥
+-- the answer is these tokens, or out of memory
+abbrev pub GivesTokens : {A : Type 0} → List Token → Result (Vec Token A) (Refusal LexFault) → Type 0
+GivesTokens tokens (Ok given) = given.items ≡ tokens
+GivesTokens tokens (Err refusal.NoMemory) = Unit {0}
+GivesTokens tokens (Err (refusal.Fault fault)) = ⊥
 
--- a text has no other tokens
+-- no text has both tokens and a fault
+abbrev pub NeverBoth : Type 0
+NeverBoth = (text : List ℕ) (tokens : List Token) (place : ℕ) → AreTokens text tokens → IsLexFault text place → ⊥
+
+-- no text has two lists of tokens
 abbrev pub OneReading : Type 0
 OneReading = (text : List ℕ) (ts us : List Token) → AreTokens text ts → AreTokens text us → ts ≡ us
 
--- a text has no other fault
+-- no text has two faults
 abbrev pub OneFault : Type 0
 OneFault = (text : List ℕ) (place other : ℕ) → IsLexFault text place → IsLexFault text other → place ≡ other
 
 -- each text has tokens or a fault
-abbrev pub IsAnswered : Type 0
-IsAnswered = (text : List ℕ) → ((tokens : List Token) × AreTokens text tokens) ⊎ ((place : ℕ) × IsLexFault text place)
+abbrev pub EachTextIsAnswered : Type 0
+EachTextIsAnswered =
+    (text : List ℕ) → ((tokens : List Token) × AreTokens text tokens) ⊎ ((place : ℕ) × IsLexFault text place)
 
 -- each token of a text ends where the next begins, or before
 abbrev pub SpansInOrder : Type 0

@@ -49,19 +49,19 @@ abbrev pub is_digit_or_point : ℕ → Bool
 is_digit_or_point b = is_digit b || is_point b
 
 -- digits with at most one point among, before or after them, and at least one digit
-abbrev pub is_decimal : List ℕ → Bool
-is_decimal bs = list_all is_digit_or_point bs && nat_le (count_by is_point bs) 1 && list_any is_digit bs
+abbrev pub is_mantissa : List ℕ → Bool
+is_mantissa bs = list_all is_digit_or_point bs && nat_le (count_by is_point bs) 1 && list_any is_digit bs
 
 -- nothing, or a byte (an `E` or `e`) and then an integer
 abbrev pub is_exponent : List ℕ → Bool
 is_exponent [] = true
 is_exponent (e ∷ bs) = is_integer bs
 
--- a decimal up to the first `E` or `e`, and what stands from there on
+-- a mantissa up to the first `E` or `e`, and an exponent from there on
 abbrev pub is_scientific : List ℕ → Bool
-is_scientific bs = is_decimal (take_while isnt_e bs) && is_exponent (drop (prefix_len isnt_e bs) bs)
+is_scientific bs = is_mantissa (take_while isnt_e bs) && is_exponent (drop (prefix_len isnt_e bs) bs)
 
--- an optional sign, a decimal and an optional exponent
+-- an optional sign, a mantissa and an optional exponent
 abbrev pub is_real : List ℕ → Bool
 is_real word = is_scientific (unsigned word)
 

@@ -5,7 +5,7 @@ pub enum TokenKind {
     Key,
     /// An optional sign, then digits.
     Integer,
-    /// A decimal with a point or an exponent.
+    /// Digits with a point, an exponent or both: `.5`, `5.` and `1e5`.
     Real,
     /// From a quote to the next quote, both in it.
     Text,
@@ -22,6 +22,6 @@ pub struct Token {
     pub kind: TokenKind,
     /// The place of its first byte, counted from 0.
     pub start: u32,
-    /// The place behind its last byte.
+    /// The place after its last byte.
     pub end: u32,
 }

@@ -1,5 +1,6 @@
 ghost use Rattle.std.specs.Prelude.{◌≡◌, ◌≤◌, ◌==◌, not, length};
 ghost use Rattle.std.specs.List.{prefix_len};
+ghost use Rattle.mn_base.specs.declared.limits.TheConstants.{TOPOLOGY_BYTES_MAX};
 
 use crate::kinds::TokenKind;
 use crate::words::{kind_of_word, word_len};
@@ -19,7 +20,7 @@ impl Piece {
     /// The piece at the front of a text, or none where no piece begins.
     #[tactic(auto, unfolding(crate::specs::Pieces::piece_at))]
     pub(crate) fn at_front(text: &[u8]) -> Option<Piece>
-        requires { length text.now ≤ 16777216 }
+        requires { length text.now ≤ TOPOLOGY_BYTES_MAX }
         ensures { result ≡ piece_at text.now }
     {
         let (first, rest) = text.split_first()?;
@@ -44,7 +45,7 @@ impl Piece {
 
     /// The text whose opening quote stands before the bytes.
     fn text(bytes: &[u8]) -> Option<Piece>
-        requires { length bytes.now ≤ 16777216 }
+        requires { length bytes.now ≤ TOPOLOGY_BYTES_MAX }
         ensures { result ≡ text_at bytes.now }
     {
         let len = content_len(bytes);

@@ -29,6 +29,7 @@ fn kinds_of_words(rt: HostRuntime) -> Result<(), Fail> {
     for (text, kind) in [
         ("a_1", TokenKind::Key),
         ("e5", TokenKind::Key),
+        ("NAN", TokenKind::Key),
         ("-0", TokenKind::Integer),
         ("007", TokenKind::Integer),
         ("5.", TokenKind::Real),
@@ -50,7 +51,7 @@ fn kinds_of_words(rt: HostRuntime) -> Result<(), Fail> {
 
 #[test]
 fn first_faults(rt: HostRuntime) {
-    laws::tokens_or_fault();
+    laws::never_both();
     laws::one_reading();
     laws::one_fault();
     laws::each_text_is_answered();
@@ -63,6 +64,7 @@ fn first_faults(rt: HostRuntime) {
         ("1.2.3", 0),
         ("1e", 0),
         ("+-1", 0),
+        ("+INF", 0),
         ("a.b", 0),
         (" _a", 1),
         ("# \n \x7f", 4),

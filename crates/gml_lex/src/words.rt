@@ -1,7 +1,7 @@
 ghost use Rattle.std.specs.Prelude.{◌≡◌, count_by};
 ghost use Rattle.std.specs.List.{list_all, list_any, prefix_len};
 ghost use Rattle.mn_base.specs.Decimal.{is_digit};
-ghost use Rattle.gml_lex.specs.Words.{is_letter, is_key_byte, is_sign, is_point, is_word_byte, isnt_e, is_key, unsigned, are_digits, is_integer, is_digit_or_point, is_decimal, is_exponent, is_scientific, is_real, kind_of_word};
+ghost use Rattle.gml_lex.specs.Words.{is_letter, is_key_byte, is_sign, is_point, is_word_byte, isnt_e, is_key, unsigned, are_digits, is_integer, is_digit_or_point, is_mantissa, is_exponent, is_scientific, is_real, kind_of_word};
 
 use crate::kinds::TokenKind;
 
@@ -106,7 +106,7 @@ fn is_real(word: &[u8]) -> bool
 {
     let bytes = unsigned(word);
     let len = mantissa_len(bytes);
-    is_decimal(&bytes[..len]) && is_exponent(&bytes[len..])
+    is_mantissa(&bytes[..len]) && is_exponent(&bytes[len..])
 }
 
 /// How many bytes stand before the first `E` or `e`.
@@ -119,8 +119,8 @@ fn mantissa_len(bytes: &[u8]) -> usize
         .count()
 }
 
-fn is_decimal(bytes: &[u8]) -> bool
-    ensures { result ≡ is_decimal bytes.now }
+fn is_mantissa(bytes: &[u8]) -> bool
+    ensures { result ≡ is_mantissa bytes.now }
 {
     are_digits_or_points(bytes) && points(bytes) <= 1 && has_digit(bytes)
 }

@@ -87,20 +87,20 @@ one_fault text f g a b =
       | inl here ↦ elim (seen text g b) [
         | inl there ↦ here.1 ∙ ap fault.Lex (lex.one_fault text here.0 there.0 here.2 there.2) ∙ sym there.1
         | inr later ↦ elim later [
-          | inl m ↦ absurd (lex.tokens_or_fault text m.tokens here.0 m.are here.2)
-          | inr read ↦ absurd (lex.tokens_or_fault text read.1.tokens here.0 read.1.are here.2)
+          | inl m ↦ absurd (lex.never_both text m.tokens here.0 m.are here.2)
+          | inr read ↦ absurd (lex.never_both text read.1.tokens here.0 read.1.are here.2)
         ]
       ]
       | inr behind ↦ elim behind [
         | inl m ↦ elim (seen text g b) [
-          | inl there ↦ absurd (lex.tokens_or_fault text m.tokens there.0 m.are there.2)
+          | inl there ↦ absurd (lex.never_both text m.tokens there.0 m.are there.2)
           | inr later ↦ elim later [
             | inl n ↦ same_misplaced text f g m n
             | inr read ↦ absurd (file_or_misplaced text read.0 f read.1 m)
           ]
         ]
         | inr read ↦ elim (seen text g b) [
-          | inl there ↦ absurd (lex.tokens_or_fault text read.1.tokens there.0 read.1.are there.2)
+          | inl there ↦ absurd (lex.never_both text read.1.tokens there.0 read.1.are there.2)
           | inr later ↦ elim later [
             | inl n ↦ absurd (file_or_misplaced text read.0 g read.1 n)
             | inr other ↦ same_file_fault text f g read other
@@ -115,7 +115,7 @@ some_isnt_none f e = cc
 pub reads_or_fault : ReadsOrFault
 reads_or_fault text topology f r is =
     elim (seen text f is) [
-      | inl here ↦ lex.tokens_or_fault text r.is_text.tokens here.0 r.is_text.are here.2
+      | inl here ↦ lex.never_both text r.is_text.tokens here.0 r.is_text.are here.2
       | inr behind ↦ elim behind [
         | inl m ↦ file_or_misplaced text r.file f r.is_text m
         | inr read ↦ some_isnt_none f (sym read.2 ∙ ap (file_fault text) (one_file text read.0 r.file read.1 r.is_text) ∙ r.no_fault)
