@@ -11,9 +11,9 @@ use Rattle.pcap_io.specs.declared.form.Form.{Form}
 use Rattle.pcap_io.specs.declared.packet.Packet.{Packet}
 use Rattle.pcap_io.specs.Capture.{Capture, IsLinkType}
 use Rattle.pcap_io.specs.Form.{magic, half, word}
-use Rattle.pcap_io.specs.Reading.{HasMagic, HasHeader, OpensWithRecord, captured, packet_of, after_record, Splits, Pcap}
-use Rattle.pcap_io.specs.Faults.{record_fault, IsFirstFault}
-use Rattle.pcap_io.specs.Laws.{IsAnswered}
+use Rattle.pcap_io.specs.Reading.{HasMagic, HasHeader, OpensWithRecord, captured, record_packet, after_record, Splits, Pcap}
+use Rattle.pcap_io.specs.Faults.{record_fault, PcapFirst}
+use Rattle.pcap_io.specs.Laws.{EachTextIsAnswered}
 use Rattle.pcap_io.proofs.Headers.{form_named, form_named-magic}
 use Rattle.pcap_io.proofs.OneReading.{first_behind}
 
@@ -57,13 +57,13 @@ EndsOrFails form n text = Ends form n text ⊎ Fails form n text
 
 more_records : (form : Form) (n : ℕ) (text : List ℕ) → OpensWithRecord form text → EndsOrFails form (n + 1) (after_record form text) → EndsOrFails form n text
 more_records form n text opens (inl ends) = inl (record {
-  packets = packet_of form text ∷ ends.packets;
+  packets = record_packet form text ∷ ends.packets;
   splits = (opens, refl, ends.splits);
   few = omega (arith, ends.few);
 })
 more_records form n text opens (inr fails) = inr (record {
   fault = fails.fault;
-  packets = packet_of form text ∷ fails.packets;
+  packets = record_packet form text ∷ fails.packets;
   rest = fails.rest;
   before = (opens, refl, fails.before);
   few = omega (arith, fails.few);
@@ -126,7 +126,7 @@ find_link_type n =
     ]
 
 abbrev Answer : List ℕ → Type 0
-Answer text = ((trace : Capture) × Pcap text trace) ⊎ ((fault : PcapFault) × IsFirstFault text fault)
+Answer text = ((trace : Capture) × Pcap text trace) ⊎ ((fault : PcapFault) × PcapFirst text fault)
 
 behind : (text : List ℕ) (form : Form) (link_type : ℕ) → HasHeader form link_type text → Answer text
 behind text form link_type header =
@@ -158,7 +158,7 @@ with_form text form has =
       ]
     ]
 
-pub is_answered : IsAnswered
+pub is_answered : EachTextIsAnswered
 is_answered text =
     elim (find_form text) [
       | inl found ↦ with_form text found.0 found.1

@@ -1,6 +1,7 @@
 pub mod Answered
+pub mod Blocks
 pub mod Headers
 pub mod OneReading
 pub mod ReadsBack
 pub mod Splitting
-pub mod Writes
+pub mod TimeBase

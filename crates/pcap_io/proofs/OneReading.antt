@@ -12,7 +12,7 @@ use Rattle.pcap_io.specs.declared.packet.Packet.{Packet}
 use Rattle.pcap_io.specs.Capture.{Capture, IsLinkType}
 use Rattle.pcap_io.specs.Form.{half, word}
 use Rattle.pcap_io.specs.Reading.{HasMagic, HasHeader, Splits, Pcap}
-use Rattle.pcap_io.specs.Faults.{IsFirstFault, HasRecordFault, HasFaultBehindHeader, record_fault}
+use Rattle.pcap_io.specs.Faults.{PcapFirst, HasRecordFault, HasFaultBehindHeader, record_fault}
 use Rattle.pcap_io.proofs.Headers.{one_form, one_header}
 use Rattle.pcap_io.proofs.Splitting.{one_split, no_record_fault, one_record_fault, stuck_at_nothing}
 
@@ -34,7 +34,7 @@ no_fault_behind text trace fault p has =
     let form = one_form p.form has.form text p.header.magic has.header.magic in
     no_record_fault has.form fault (drop 24 text) trace.packets p.count (subst (λ (f : Form). Splits f (drop 24 text) trace.packets []) form p.records) has.body
 
-pub no_fault : (text : List ℕ) (trace : Capture) (fault : PcapFault) → Pcap text trace → IsFirstFault text fault → ⊥
+pub no_fault : (text : List ℕ) (trace : Capture) (fault : PcapFault) → Pcap text trace → PcapFirst text fault → ⊥
 no_fault text trace NotPcap p has = has p.form p.header.magic
 no_fault text trace ShortHeader p has = omega (arith, p.header.whole, has.1.short)
 no_fault text trace (Version major) p has =
@@ -101,7 +101,7 @@ FailsAt text fault = ((fault ≡ NotPcap) × ((form : Form) → HasMagic form te
 behind_header : (text : List ℕ) (fault : PcapFault) → HasFaultBehindHeader fault text → FailsAt text fault
 behind_header text fault has = inr (has.form, has.header.magic, inr (header_fault-none has.form text has.link_type has.header, has.body))
 
-fails_at : (text : List ℕ) (fault : PcapFault) → IsFirstFault text fault → FailsAt text fault
+fails_at : (text : List ℕ) (fault : PcapFault) → PcapFirst text fault → FailsAt text fault
 fails_at text NotPcap has = inl (refl, has)
 fails_at text ShortHeader has = inr (has.0, has.1.magic, inl (header_fault-short has.0 text has.1.short))
 fails_at text (Version major) has = inr (has.0, has.1.magic, inl (header_fault-version has.0 text major has.1.whole has.1.version has.1.other))
@@ -132,7 +132,7 @@ one_place text fault other (inr p) (inr q) =
     let same = one_form p.0 q.0 text p.1 q.1 in
     one_behind_magic q.0 text fault other (subst (λ (form : Form). FailsBehindMagic form text fault) same p.2) q.2
 
-pub one_fault : (text : List ℕ) (fault other : PcapFault) → IsFirstFault text fault → IsFirstFault text other → fault ≡ other
+pub one_fault : (text : List ℕ) (fault other : PcapFault) → PcapFirst text fault → PcapFirst text other → fault ≡ other
 one_fault text fault other p q = one_place text fault other (fails_at text fault p) (fails_at text other q)
 
 -- ---- a fault behind the header is the first of the text
@@ -149,7 +149,7 @@ version_of_record form n text major told = grind (arith, nat_tests)
 link_type_of_record : (form : Form) (n : ℕ) (text : List ℕ) (link_type : ℕ) → record_fault form n text ≡ Some (LinkType link_type) → ⊥
 link_type_of_record form n text link_type told = grind (arith, nat_tests)
 
-pub first_behind : (form : Form) (link_type : ℕ) (text : List ℕ) (fault : PcapFault) → HasHeader form link_type text → HasRecordFault form fault (drop 24 text) → IsFirstFault text fault
+pub first_behind : (form : Form) (link_type : ℕ) (text : List ℕ) (fault : PcapFault) → HasHeader form link_type text → HasRecordFault form fault (drop 24 text) → PcapFirst text fault
 first_behind form link_type text NotPcap header has = absurd (not_pcap_of_record form (length has.packets) has.rest has.fault_is)
 first_behind form link_type text ShortHeader header has = absurd (short_header_of_record form (length has.packets) has.rest has.fault_is)
 first_behind form link_type text (Version major) header has = absurd (version_of_record form (length has.packets) has.rest major has.fault_is)
@@ -160,20 +160,20 @@ first_behind form link_type text (TooLong n) header has = record { form = form; 
 first_behind form link_type text TooMany header has = record { form = form; link_type = link_type; header = header; body = has }
 
 pub refusal_behind : (form : Form) (link_type : ℕ) (text : List ℕ) (given : Refusal PcapFault) → HasHeader form link_type text
-    → IfFault given (λ fault. HasRecordFault form fault (drop 24 text)) → IfFault given (IsFirstFault text)
+    → IfFault given (λ fault. HasRecordFault form fault (drop 24 text)) → IfFault given (PcapFirst text)
 refusal_behind form link_type text refusal.NoMemory header has = tt
 refusal_behind form link_type text (refusal.Fault fault) header has = first_behind form link_type text fault header has
 
 -- ---- what a reader answers that gives a reading or the first fault
 
 pub gives_trace : (text : List ℕ) (result : Result Capture (Refusal PcapFault)) (trace : Capture)
-    → IfOk result (Pcap text) → IfErr result (λ refusal. IfFault refusal (IsFirstFault text)) → Pcap text trace → Gives trace result
+    → IfOk result (Pcap text) → IfErr result (λ refusal. IfFault refusal (PcapFirst text)) → Pcap text trace → Gives trace result
 gives_trace text (Ok given) trace found fault p = one_reading text given trace found p
 gives_trace text (Err refusal.NoMemory) trace found fault p = tt
 gives_trace text (Err (refusal.Fault given)) trace found fault p = no_fault text trace given p fault
 
 pub gives_fault : (text : List ℕ) (result : Result Capture (Refusal PcapFault)) (fault : PcapFault)
-    → IfOk result (Pcap text) → IfErr result (λ refusal. IfFault refusal (IsFirstFault text)) → IsFirstFault text fault → Refuses fault result
+    → IfOk result (Pcap text) → IfErr result (λ refusal. IfFault refusal (PcapFirst text)) → PcapFirst text fault → Refuses fault result
 gives_fault text (Ok given) fault found told has = no_fault text given fault found has
 gives_fault text (Err refusal.NoMemory) fault found told has = tt
 gives_fault text (Err (refusal.Fault given)) fault found told has = one_fault text given fault told has

@@ -12,7 +12,7 @@ use Rattle.pcap_io.specs.declared.form.Form.{Form}
 use Rattle.pcap_io.specs.declared.packet.Packet.{Packet}
 use Rattle.pcap_io.specs.Capture.{Capture, IsLinkType, IsPacket, IsTrace}
 use Rattle.pcap_io.specs.Form.{half, word}
-use Rattle.pcap_io.specs.Reading.{HasHeader, OpensWithRecord, packet_of, after_record, Splits, Pcap}
+use Rattle.pcap_io.specs.Reading.{HasHeader, OpensWithRecord, record_packet, after_record, Splits, Pcap}
 use Rattle.pcap_io.specs.Writing.{header_text, record_header_text, record_text, pcap_text}
 
 -- the form that is written
@@ -92,7 +92,7 @@ opens_back packet rest can =
     }
 
 -- the packet and the rest of a record that was written
-packet_back : (packet : Packet) (rest : List ℕ) → CanBeRead packet → packet ≡ packet_of written (record_header_text packet ++ (packet.bytes ++ rest))
+packet_back : (packet : Packet) (rest : List ℕ) → CanBeRead packet → packet ≡ record_packet written (record_header_text packet ++ (packet.bytes ++ rest))
 packet_back packet rest can =
     let text = record_header_text packet ++ (packet.bytes ++ rest) in
     let numbers = numbers_back packet (packet.bytes ++ rest) can.within in

@@ -9,15 +9,15 @@ use Rattle.pcap_io.specs.declared.packet.Packet.{Packet}
 use Rattle.pcap_io.specs.declared.reading.RecordHeader.{RecordHeader}
 use Rattle.pcap_io.specs.Answers.{record_header_of}
 use Rattle.pcap_io.specs.Capture.{IsPacket, IsRecordTime}
-use Rattle.pcap_io.specs.Reading.{OpensWithRecord, time_ns, captured, packet_of, after_record, Splits}
+use Rattle.pcap_io.specs.Reading.{OpensWithRecord, time_ns, captured, record_packet, after_record, Splits}
 use Rattle.pcap_io.specs.Faults.{record_fault, HasRecordFault}
 
 -- one more record at the end
 pub Splits-push : (form : Form) (text : List ℕ) (packets : List Packet) (rest : List ℕ) (packet : Packet) (after : List ℕ)
-    → Splits form text packets rest → OpensWithRecord form rest → packet ≡ packet_of form rest → after ≡ after_record form rest
+    → Splits form text packets rest → OpensWithRecord form rest → packet ≡ record_packet form rest → after ≡ after_record form rest
     → Splits form text (packets ++ packet ∷ []) after
 Splits-push form text [] rest packet after splits opens packet_is after_is =
-    (subst (λ (t : List ℕ). OpensWithRecord form t) (sym splits) opens, packet_is ∙ ap (packet_of form) (sym splits), ap (after_record form) splits ∙ sym after_is)
+    (subst (λ (t : List ℕ). OpensWithRecord form t) (sym splits) opens, packet_is ∙ ap (record_packet form) (sym splits), ap (after_record form) splits ∙ sym after_is)
 Splits-push form text (p ∷ ps) rest packet after splits opens packet_is after_is =
     (splits.0, splits.1, Splits-push form (after_record form text) ps rest packet after splits.2 opens packet_is after_is)
 
@@ -60,18 +60,18 @@ Splits-meet form n text (p ∷ ps) (q ∷ qs) rest other few few' s t stuck stuc
     record { packets_are = cc; rest_is = m.rest_is }
 
 -- the packet of a whole record is within the limits, if its time is one that a record can say
-pub IsPacket-packet_of : (form : Form) (text : List ℕ) → OpensWithRecord form text → IsRecordTime (time_ns form text) → IsPacket (packet_of form text)
-IsPacket-packet_of form text opens early = record {
+pub IsPacket-record_packet : (form : Form) (text : List ℕ) → OpensWithRecord form text → IsRecordTime (time_ns form text) → IsPacket (record_packet form text)
+IsPacket-record_packet form text opens early = record {
   time = omega arith;
   original = opens.original_length;
   captured = omega (arith, opens.captured_length, length-take (captured form text) (drop 16 text));
 }
 
 -- the packet that is made from the header of a record and what follows it
-pub packet_of-parts : (form : Form) (text body front bytes : List ℕ) (header : RecordHeader) → header ≡ record_header_of form text
+pub record_packet-parts : (form : Form) (text body front bytes : List ℕ) (header : RecordHeader) → header ≡ record_header_of form text
     → body ≡ drop 16 text → front ≡ take header.captured body → bytes ≡ front
-    → record { time_ns = header.time_ns; original = header.original; bytes = bytes } ≡ packet_of form text
-packet_of-parts form text body front bytes header header_is body_is front_is bytes_are = cc
+    → record { time_ns = header.time_ns; original = header.original; bytes = bytes } ≡ record_packet form text
+record_packet-parts form text body front bytes header header_is body_is front_is bytes_are = cc
 
 pub after_record-parts : (form : Form) (text body after : List ℕ) (header : RecordHeader) → header ≡ record_header_of form text
     → body ≡ drop 16 text → after ≡ drop header.captured body → after ≡ after_record form text

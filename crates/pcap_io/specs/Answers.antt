@@ -7,12 +7,12 @@ use Rattle.pcap_io.specs.declared.reading.Header.{Header}
 use Rattle.pcap_io.specs.declared.reading.RecordHeader.{RecordHeader}
 use Rattle.pcap_io.specs.Capture.{IsRecordTime}
 use Rattle.pcap_io.specs.Reading.{HasHeader, OpensWithRecord, time_ns, captured, original}
-use Rattle.pcap_io.specs.Faults.{IsFirstFault, record_fault}
+use Rattle.pcap_io.specs.Faults.{PcapFirst, record_fault}
 
 -- a good header, or the text's first fault
 abbrev pub ReadsHeader : List ℕ → Result Header PcapFault → Type 0
 ReadsHeader text (Ok header) = HasHeader header.form header.link_type text
-ReadsHeader text (Err fault) = IsFirstFault text fault
+ReadsHeader text (Err fault) = PcapFirst text fault
 
 -- the numbers of the record that opens the text
 abbrev pub record_header_of : Form → List ℕ → RecordHeader

@@ -1,7 +1,8 @@
 -- What a trace is: a link type and packets in order, within the limits.
-use Rattle.std.specs.Prelude.{◌≡◌, ℕ, ◌*◌, ◌^◌, ◌<◌, ◌≤◌, ◌⊎◌, List, length}
+use Rattle.std.specs.Prelude.{◌≡◌, ℕ, ◌*◌, ◌^◌, ◌<◌, ◌≤◌, ◌⊎◌, List, length, map}
 use Rattle.std.specs.List.{All}
 use Rattle.mn_base.specs.declared.limits.TheConstants.{PACKETS_MAX, PACKET_BYTES_MAX}
+use Rattle.mn_base.specs.Times.{base_of}
 use Rattle.pcap_io.specs.declared.packet.Packet.{Packet}
 
 -- what contracts see of a `Trace`
@@ -28,3 +29,7 @@ pub record IsTrace (trace : Capture) : Type 0 where
 -- the time that a record can say: at most 3,600,000,000 seconds, and a fraction of less than 5,000 more
 abbrev pub IsRecordTime : ℕ → Type 0
 IsRecordTime time_ns = time_ns < 3600005000 * 10 ^ 9
+
+-- the time base of a run on a trace, in ns
+abbrev pub trace_base : Capture → ℕ
+trace_base trace = base_of (map (λ packet. packet.time_ns) trace.packets)

@@ -56,12 +56,12 @@ pub record HasFaultBehindHeader (fault : PcapFault) (text : List ℕ) : Type 0 w
   pub body : HasRecordFault form fault (drop 24 text)
 
 -- this fault is the first of the text
-abbrev pub IsFirstFault : List ℕ → PcapFault → Type 0
-IsFirstFault text NotPcap = (form : Form) → HasMagic form text → ⊥
-IsFirstFault text ShortHeader = (form : Form) × HasShortHeader form text
-IsFirstFault text (Version major) = (form : Form) × HasOtherVersion form major text
-IsFirstFault text (LinkType link_type) = (form : Form) × HasOtherLinkType form link_type text
-IsFirstFault text (Truncated n) = HasFaultBehindHeader (Truncated n) text
-IsFirstFault text (TimeRange n) = HasFaultBehindHeader (TimeRange n) text
-IsFirstFault text (TooLong n) = HasFaultBehindHeader (TooLong n) text
-IsFirstFault text TooMany = HasFaultBehindHeader TooMany text
+abbrev pub PcapFirst : List ℕ → PcapFault → Type 0
+PcapFirst text NotPcap = (form : Form) → HasMagic form text → ⊥
+PcapFirst text ShortHeader = (form : Form) × HasShortHeader form text
+PcapFirst text (Version major) = (form : Form) × HasOtherVersion form major text
+PcapFirst text (LinkType link_type) = (form : Form) × HasOtherLinkType form link_type text
+PcapFirst text (Truncated n) = HasFaultBehindHeader (Truncated n) text
+PcapFirst text (TimeRange n) = HasFaultBehindHeader (TimeRange n) text
+PcapFirst text (TooLong n) = HasFaultBehindHeader (TooLong n) text
+PcapFirst text TooMany = HasFaultBehindHeader TooMany text

@@ -13,15 +13,15 @@ magic Little Nanoseconds = 0x4d ∷ 0x3c ∷ 0xb2 ∷ 0xa1 ∷ []
 magic Big Microseconds = 0xa1 ∷ 0xb2 ∷ 0xc3 ∷ 0xd4 ∷ []
 magic Big Nanoseconds = 0xa1 ∷ 0xb2 ∷ 0x3c ∷ 0x4d ∷ []
 
--- the number of the two bytes at a place
+-- the number of the two bytes at an offset
 unfoldable pub half : ByteOrder → ℕ → List ℕ → ℕ
-half Little place text = from_le_bytes w16 (drop place text)
-half Big place text = from_be_bytes w16 (drop place text)
+half Little offset text = from_le_bytes w16 (drop offset text)
+half Big offset text = from_be_bytes w16 (drop offset text)
 
--- the number of the four bytes at a place
+-- the number of the four bytes at an offset
 unfoldable pub word : ByteOrder → ℕ → List ℕ → ℕ
-word Little place text = from_le_bytes w32 (drop place text)
-word Big place text = from_be_bytes w32 (drop place text)
+word Little offset text = from_le_bytes w32 (drop offset text)
+word Big offset text = from_be_bytes w32 (drop offset text)
 
 -- how many ns a fraction is
 abbrev pub fraction_ns : Resolution → ℕ → ℕ

@@ -5,7 +5,7 @@ use Rattle.mn_base.specs.declared.limits.TheConstants.{RECORD_SECONDS_MAX}
 use Rattle.pcap_io.specs.declared.fault.PcapFault.{PcapFault}
 use Rattle.pcap_io.specs.Capture.{Capture, IsTrace}
 use Rattle.pcap_io.specs.Reading.{Pcap}
-use Rattle.pcap_io.specs.Faults.{IsFirstFault}
+use Rattle.pcap_io.specs.Faults.{PcapFirst}
 use Rattle.pcap_io.specs.Writing.{pcap_text}
 
 -- the written form of a trace whose seconds can be read says that trace
@@ -13,17 +13,17 @@ abbrev pub ReadsBack : Type 0
 ReadsBack = (trace : Capture) → IsTrace trace → All (λ packet. packet.time_ns / 10 ^ 9 ≤ RECORD_SECONDS_MAX) trace.packets → Pcap (pcap_text trace) trace
 
 -- a text says one trace at most
-abbrev pub HasOneReading : Type 0
-HasOneReading = (text : List ℕ) (trace other : Capture) → Pcap text trace → Pcap text other → trace ≡ other
+abbrev pub OneReading : Type 0
+OneReading = (text : List ℕ) (trace other : Capture) → Pcap text trace → Pcap text other → trace ≡ other
 
 -- a text that says a trace has no first fault
-abbrev pub HasNoFault : Type 0
-HasNoFault = (text : List ℕ) (trace : Capture) (fault : PcapFault) → Pcap text trace → IsFirstFault text fault → ⊥
+abbrev pub NeverBoth : Type 0
+NeverBoth = (text : List ℕ) (trace : Capture) (fault : PcapFault) → Pcap text trace → PcapFirst text fault → ⊥
 
 -- a text has one first fault at most
-abbrev pub HasOneFault : Type 0
-HasOneFault = (text : List ℕ) (fault other : PcapFault) → IsFirstFault text fault → IsFirstFault text other → fault ≡ other
+abbrev pub OneFault : Type 0
+OneFault = (text : List ℕ) (fault other : PcapFault) → PcapFirst text fault → PcapFirst text other → fault ≡ other
 
 -- each text says a trace or has a first fault
-abbrev pub IsAnswered : Type 0
-IsAnswered = (text : List ℕ) → ((trace : Capture) × Pcap text trace) ⊎ ((fault : PcapFault) × IsFirstFault text fault)
+abbrev pub EachTextIsAnswered : Type 0
+EachTextIsAnswered = (text : List ℕ) → ((trace : Capture) × Pcap text trace) ⊎ ((fault : PcapFault) × PcapFirst text fault)

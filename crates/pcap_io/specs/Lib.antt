@@ -1,5 +1,7 @@
 pub mod Answers
+pub mod Buffering
 pub mod Capture
+pub mod FaultTexts
 pub mod Faults
 pub mod Form
 pub mod Laws

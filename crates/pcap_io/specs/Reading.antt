@@ -46,8 +46,8 @@ abbrev pub time_ns : Form → List ℕ → ℕ
 time_ns form text = seconds form text * 10 ^ 9 + fraction_ns form.resolution (fraction form text)
 
 -- the packet of that record
-abbrev pub packet_of : Form → List ℕ → Packet
-packet_of form text = record {
+abbrev pub record_packet : Form → List ℕ → Packet
+record_packet form text = record {
   time_ns = time_ns form text;
   original = original form text;
   bytes = take (captured form text) (drop 16 text);
@@ -61,7 +61,7 @@ after_record form text = drop (16 + captured form text) text
 abbrev pub Splits : Form → List ℕ → List Packet → List ℕ → Type 0
 Splits form text [] rest = text ≡ rest
 Splits form text (packet ∷ packets) rest =
-    OpensWithRecord form text × (packet ≡ packet_of form text) × Splits form (after_record form text) packets rest
+    OpensWithRecord form text × (packet ≡ record_packet form text) × Splits form (after_record form text) packets rest
 
 -- the text says this trace: a header, and at most so many whole records and nothing else
 pub record Pcap (text : List ℕ) (trace : Capture) : Type 0 where

@@ -1,31 +1,48 @@
-use thiserror::Error;
+ghost use Rattle.std.specs.Prelude.{Some};
 
-/// What is wrong with a text that is no capture: the first fault from its start.
-/// Records are numbered from 0.
-#[derive(Clone, Copy, Debug, PartialEq, Eq, Error)]
+use std::error::Error;
+use std::fmt;
+
+/// What is wrong with bytes that are no capture: the first fault from their start.
+/// Records are numbered from 0. Its text is that of the line on which the program says it.
+#[derive(Clone, Copy, Debug, PartialEq, Eq)]
 pub enum PcapFault {
-    /// No magic number of pcap opens the text.
-    #[error("not pcap")]
+    /// No magic number of pcap opens the file.
     NotPcap,
-    /// The text ends within the header of 24 bytes.
-    #[error("short header")]
+    /// The file ends within the header of 24 bytes.
     ShortHeader,
     /// The major version, which isn't 2.
-    #[error("version {0}")]
     Version(u16),
     /// The link type, which is neither 1, 101 nor 228.
-    #[error("link type {0}")]
     LinkType(u32),
-    /// The text ends within this record.
-    #[error("packet {0} is cut short")]
+    /// The file ends within this record.
     Truncated(u32),
-    /// This record has more than 3,600,000,000 seconds.
-    #[error("time of packet {0} out of range")]
+    /// This record has more seconds than `RECORD_SECONDS_MAX` of mn_base.
     TimeRange(u32),
-    /// This record has a captured or original length of more than 262,144 bytes.
-    #[error("packet {0} is too long")]
+    /// This record has a captured or original length of more than `PACKET_BYTES_MAX` bytes.
     TooLong(u32),
-    /// There are more than 1,048,576 records.
-    #[error("too many packets")]
+    /// There are more than `PACKETS_MAX` records.
     TooMany,
+}
+
+impl Error for PcapFault {}
+
+impl fmt::Display for PcapFault {
+    ghost use Rattle.pcap_io.specs.FaultTexts.{pcap_fault_text};
+
+    ghost output = { λ fault. Some (pcap_fault_text fault) };
+
+    #[tactic(auto, unfolding(crate::specs::FaultTexts::pcap_fault_text))]
+    fn fmt<W: fmt::Write>(&self, f: &mut fmt::Formatter<W>) -> fmt::Result {
+        match *self {
+            PcapFault::NotPcap => f.write_str("not pcap"),
+            PcapFault::ShortHeader => f.write_str("short header"),
+            PcapFault::Version(major) => write!(f, "version {major}"),
+            PcapFault::LinkType(link_type) => write!(f, "link type {link_type}"),
+            PcapFault::Truncated(record) => write!(f, "packet {record} is cut short"),
+            PcapFault::TimeRange(record) => write!(f, "time of packet {record} out of range"),
+            PcapFault::TooLong(record) => write!(f, "packet {record} is too long"),
+            PcapFault::TooMany => f.write_str("too many packets"),
+        }
+    }
 }

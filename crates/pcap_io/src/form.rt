@@ -11,30 +11,30 @@ pub enum ByteOrder {
 }
 
 impl ByteOrder {
-    /// The number of the two bytes at a place.
+    /// The number of the two bytes at an offset.
     #[tactic(auto, unfolding(crate::specs::Form::half))]
-    pub fn half(self, text: &[u8], place: usize) -> u16
-        requires { place + 2 ≤ length text.now }
-        ensures { result ≡ half self place text.now }
+    pub fn half(self, text: &[u8], offset: usize) -> u16
+        requires { offset + 2 ≤ length text.now }
+        ensures { result ≡ half self offset text.now }
     {
-        let bytes = [text[place], text[place + 1]];
+        let bytes = [text[offset], text[offset + 1]];
         match self {
             ByteOrder::Little => u16::from_le_bytes(bytes),
             ByteOrder::Big => u16::from_be_bytes(bytes),
         }
     }
 
-    /// The number of the four bytes at a place.
+    /// The number of the four bytes at an offset.
     #[tactic(auto, unfolding(crate::specs::Form::word))]
-    pub fn word(self, text: &[u8], place: usize) -> u32
-        requires { place + 4 ≤ length text.now }
-        ensures { result ≡ word self place text.now }
+    pub fn word(self, text: &[u8], offset: usize) -> u32
+        requires { offset + 4 ≤ length text.now }
+        ensures { result ≡ word self offset text.now }
     {
         let bytes = [
-            text[place],
-            text[place + 1],
-            text[place + 2],
-            text[place + 3],
+            text[offset],
+            text[offset + 1],
+            text[offset + 2],
+            text[offset + 3],
         ];
         match self {
             ByteOrder::Little => u32::from_le_bytes(bytes),

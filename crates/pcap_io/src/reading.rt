@@ -2,7 +2,7 @@ ghost use Rattle.std.specs.Prelude.{◌≡◌, ℕ, ◌+◌, ◌*◌, ◌^◌, �
 ghost use Rattle.mn_base.specs.Refused.{IfFault, Gives, Refuses};
 ghost use Rattle.pcap_io.specs.Capture.{Capture, IsLinkType, IsPacket, IsRecordTime};
 ghost use Rattle.pcap_io.specs.Reading.{Splits, Pcap};
-ghost use Rattle.pcap_io.specs.Faults.{IsFirstFault, HasRecordFault};
+ghost use Rattle.pcap_io.specs.Faults.{PcapFirst, HasRecordFault};
 ghost use Rattle.pcap_io.specs.Answers.{ReadsHeader, ReadsRecord};
 ghost use Rattle.pcap_io.specs.declared.fault.PcapFault.{PcapFault};
 
@@ -131,9 +131,9 @@ fn read_packets(alloc: Global, form: Form, body: &[u8]) -> Result<Vec<Packet>, R
 pub fn read_pcap(alloc: Global, text: &[u8]) -> Result<Trace, Refusal<PcapFault>>
     requires { length text.now ≤ TRACE_BYTES_MAX }
     ensures found { IfOk result (λ trace. Pcap text.now trace) }
-    ensures fault { IfErr result (λ refusal. IfFault refusal (IsFirstFault text.now)) }
+    ensures fault { IfErr result (λ refusal. IfFault refusal (PcapFirst text.now)) }
     ensures only_trace { (trace : Capture) → Pcap text.now trace → Gives trace result }
-    ensures only_fault { (fault : PcapFault) → IsFirstFault text.now fault → Refuses fault result }
+    ensures only_fault { (fault : PcapFault) → PcapFirst text.now fault → Refuses fault result }
     ensures times { IfOk result (λ trace. All (λ packet. IsRecordTime packet.time_ns) trace.packets) }
 {
     let header = match read_header(text) {

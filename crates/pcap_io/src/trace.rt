@@ -1,5 +1,5 @@
-ghost use Rattle.std.specs.Prelude.{◌≡◌};
-ghost use Rattle.pcap_io.specs.Capture.{Capture, IsTrace};
+ghost use Rattle.std.specs.Prelude.{◌≡◌, ◌≤◌, All};
+ghost use Rattle.pcap_io.specs.Capture.{Capture, IsTrace, trace_base};
 
 use crate::packet::Packet;
 use std::marker::Model;
@@ -47,6 +47,21 @@ impl Trace {
         ensures within { IsTrace self.now }
     {
         self.packets.as_slice()
+    }
+
+    /// The time base of a run on this trace: the least time of all records, in ns since the epoch, or 0 where there is none.
+    pub fn time_base(&self) -> u64
+        ensures value { result ≡ trace_base self.now }
+        ensures least { All (λ packet. result ≤ packet.time_ns) self.now.packets }
+    {
+        let Some((first, others)) = self.packets.as_slice().split_first() else {
+            return 0;
+        };
+        let mut least = first.time_ns;
+        'others: for packet in others {
+            least = least.min(packet.time_ns);
+        }
+        least
     }
 
     /// The packets themselves, with no memory taken.

@@ -1,14 +1,16 @@
-ghost use Rattle.std.specs.Prelude.{◌≡◌, ◌≢◌, ◌*◌, ◌^◌, ◌<◌, ◌≤◌, true, All, length};
+ghost use Rattle.std.specs.Prelude.{◌≡◌, ◌≢◌, ◌*◌, ◌^◌, ◌<◌, ◌≤◌, ◌++◌, true, All, length};
 ghost use Rattle.std.specs.List.{flat_map};
 ghost use Rattle.mn_edge.specs.declared.role.Role.{Role};
 ghost use Rattle.mn_edge.specs.Whole.{AddsWhole};
+ghost use Rattle.pcap_io.specs.Buffering.{AddsBuffered};
 ghost use Rattle.pcap_io.specs.Capture.{IsPacket};
 ghost use Rattle.pcap_io.specs.Writing.{header_text, record_header_text, record_text, pcap_text};
 
+use crate::block::Block;
 use crate::packet::Packet;
 use crate::trace::Trace;
 use mn_base::limits::PACKET_BYTES_MAX;
-use mn_edge::{Host, Role, WriteFault, write_all};
+use mn_edge::{Host, Role, WriteFault};
 
 /// The header of a capture that is written: little-endian, in ns, version 2.4.
 #[tactic(auto, unfolding(crate::specs::Writing::header_text))]
@@ -41,36 +43,49 @@ fn record_header(packet: &Packet) -> [u8; 16]
     ]
 }
 
-fn write_record<H: Host>(host: &mut H, role: Role, packet: &Packet) -> Result<(), WriteFault>
+fn write_record<H: Host>(
+    block: &mut Block,
+    host: &mut H,
+    role: Role,
+    packet: &Packet,
+) -> Result<(), WriteFault>
     requires active { (H.part host.old role).active ≡ true }
     requires within { IsPacket packet.now }
-    ensures own { AddsWhole (record_text packet.now) (H.part host.old role) (H.part host.new role) result }
+    ensures own { AddsBuffered (block.old ++ record_text packet.now) (H.part host.old role) (H.part host.new role) block.new result }
     ensures others { (other : Role) → other ≢ role → H.part host.new other ≡ H.part host.old other }
 {
-    write_all(host, role, &record_header(packet))?;
-    write_all(host, role, packet.bytes.as_slice())
+    block.put(host, role, &record_header(packet))?;
+    block.put(host, role, packet.bytes.as_slice())
 }
 
-fn write_records<H: Host>(host: &mut H, role: Role, packets: &[Packet]) -> Result<(), WriteFault>
+fn write_records<H: Host>(
+    block: &mut Block,
+    host: &mut H,
+    role: Role,
+    packets: &[Packet],
+) -> Result<(), WriteFault>
     requires active { (H.part host.old role).active ≡ true }
     requires within { All IsPacket packets.now }
-    ensures own { AddsWhole (flat_map record_text packets.now) (H.part host.old role) (H.part host.new role) result }
+    ensures own { AddsBuffered (block.old ++ flat_map record_text packets.now) (H.part host.old role) (H.part host.new role) block.new result }
     ensures others { (other : Role) → other ≢ role → H.part host.new other ≡ H.part host.old other }
 {
     'packets: for packet in packets {
-        write_record(host, role, packet)?;
+        write_record(block, host, role, packet)?;
     }
     Ok(())
 }
 
 /// Writes a trace to an active role, as a little-endian capture of version 2.4 in ns. It takes no memory.
 ///
-/// A `WriteFault` comes only where the role's count of faults rose, and then a front of the text was written.
+/// The bytes go through one array of 64 KiB, so that the host is called once for that many.
+/// A `WriteFault` comes only where the role's count of faults rose, and then a front of the file was written.
 pub fn write_pcap<H: Host>(trace: &Trace, host: &mut H, role: Role) -> Result<(), WriteFault>
     requires { (H.part host.old role).active ≡ true }
     ensures own { AddsWhole (pcap_text trace.now) (H.part host.old role) (H.part host.new role) result }
     ensures others { (other : Role) → other ≢ role → H.part host.new other ≡ H.part host.old other }
 {
-    write_all(host, role, &header(trace.link_type()))?;
-    write_records(host, role, trace.packets())
+    let mut block = Block::new();
+    block.put(host, role, &header(trace.link_type()))?;
+    write_records(&mut block, host, role, trace.packets())?;
+    block.flush(host, role)
 }

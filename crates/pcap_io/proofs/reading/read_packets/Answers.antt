@@ -4,8 +4,8 @@ use Rattle.std.proofs.lemmas.List.Elements.{All-push}
 use Rattle.pcap_io.specs.declared.packet.Packet.{Packet}
 use Rattle.pcap_io.specs.declared.reading.RecordHeader.{RecordHeader}
 use Rattle.pcap_io.specs.Capture.{IsPacket, IsRecordTime}
-use Rattle.pcap_io.specs.Reading.{packet_of, after_record, time_ns}
-use Rattle.pcap_io.proofs.Splitting.{Splits-push, IsPacket-packet_of, packet_of-parts, after_record-parts}
+use Rattle.pcap_io.specs.Reading.{record_packet, after_record, time_ns}
+use Rattle.pcap_io.proofs.Splitting.{Splits-push, IsPacket-record_packet, record_packet-parts, after_record-parts}
 use Rattle.pcap_io.proofs.reading.read_packets.Goals as goal
 
 pub records-preserved : goal.records-preserved
@@ -15,11 +15,11 @@ records-preserved c =
     let body = c.split_at.result.1.now in
     let opens = c.in-Ok.ensures.0 in
     let packet : Packet = record { time_ns = c.in-Ok.header.time_ns; original = c.in-Ok.header.original; bytes = c.in_ok-bytes.bytes } in
-    let packet_is : packet ≡ packet_of form rest = packet_of-parts form rest body _ _ c.in-Ok.header c.in-Ok.ensures.1 c.split_at.ensures.back c.split_at-in-records.ensures.front c.in_ok-bytes.ensures.copied in
+    let packet_is : packet ≡ record_packet form rest = record_packet-parts form rest body _ _ c.in-Ok.header c.in-Ok.ensures.1 c.split_at.ensures.back c.split_at-in-records.ensures.front c.in_ok-bytes.ensures.copied in
     let after_is : c.split_at-in-records.result.1.now ≡ after_record form rest = after_record-parts form rest body _ c.in-Ok.header c.in-Ok.ensures.1 c.split_at.ensures.back c.split_at-in-records.ensures.back in
     let items_are : c.push.new.self.items ≡ c.records.packets.items ++ packet ∷ [] = c.in_ok-push.ensures.items in
     let early : IsRecordTime (time_ns form rest) = omega (arith, c.in-Ok.ensures.2, ap (λ (h : RecordHeader). h.time_ns) c.in-Ok.ensures.1) in
-    let is_packet : IsPacket packet = subst IsPacket (sym packet_is) (IsPacket-packet_of form rest opens early) in
+    let is_packet : IsPacket packet = subst IsPacket (sym packet_is) (IsPacket-record_packet form rest opens early) in
     record {
       splits = rw items_are (Splits-push form c.args.body.now c.records.packets.items rest packet _ c.records.invariant.splits opens packet_is after_is);
       number = rw items_are (omega (arith, length_push c.records.packets.items packet, c.records.invariant.number));

@@ -3,7 +3,7 @@ use Rattle.std.proofs.Common.{Ok, Err, List, ℕ, subst, rules}
 use Rattle.std.proofs.lemmas.Result.{err_from_is_err_and}
 use Rattle.mn_base.specs.declared.refusal.Refusal.TheVariants.{Fault}
 use Rattle.mn_base.specs.Refused.{IfFault}
-use Rattle.pcap_io.specs.Faults.{IsFirstFault, HasRecordFault}
+use Rattle.pcap_io.specs.Faults.{PcapFirst, HasRecordFault}
 use Rattle.pcap_io.proofs.OneReading.{gives_trace, gives_fault, refusal_behind}
 use Rattle.pcap_io.proofs.reading.read_pcap.Goals as goal
 
@@ -19,7 +19,7 @@ returns-in-Err-clause-only_trace c = λ trace. gives_trace c.args.text.now (Err 
 pub returns-in-Err-clause-only_fault : goal.returns-in-Err-clause-only_fault
 returns-in-Err-clause-only_fault c = λ fault. gives_fault c.args.text.now (Err (Fault c.in-Err.fault)) fault tt c.in-Err.ensures
 
-refused : (c : goal.After-from_residual) → IfFault c.in_err-packets.field-0.0 (IsFirstFault c.args.text.now)
+refused : (c : goal.After-from_residual) → IfFault c.in_err-packets.field-0.0 (PcapFirst c.args.text.now)
 refused c =
     refusal_behind c.in-Ok.header.form c.in-Ok.header.link_type c.args.text.now c.in_err-packets.field-0.0 c.in-Ok.ensures
     (subst (λ (body : List ℕ). IfFault c.in_err-packets.field-0.0 (λ fault. HasRecordFault c.in-Ok.header.form fault body)) c.split_at.ensures.back c.in_err-packets.ensures.fault)
