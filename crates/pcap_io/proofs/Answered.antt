@@ -12,7 +12,7 @@ use Rattle.pcap_io.specs.declared.packet.Packet.{Packet}
 use Rattle.pcap_io.specs.Capture.{Capture, IsLinkType}
 use Rattle.pcap_io.specs.Form.{magic, half, word}
 use Rattle.pcap_io.specs.Reading.{HasMagic, HasHeader, OpensWithRecord, captured, record_packet, after_record, Splits, Pcap}
-use Rattle.pcap_io.specs.Faults.{record_fault, PcapFirst}
+use Rattle.pcap_io.specs.Faults.{HasOtherLinkType, record_fault, PcapFirst}
 use Rattle.pcap_io.specs.Laws.{EachTextIsAnswered}
 use Rattle.pcap_io.proofs.Headers.{form_named, form_named-magic}
 use Rattle.pcap_io.proofs.OneReading.{first_behind}
@@ -55,7 +55,8 @@ record Fails (form : Form) (n : ℕ) (text : List ℕ) : Type 0 where
 abbrev EndsOrFails : Form → ℕ → List ℕ → Type 0
 EndsOrFails form n text = Ends form n text ⊎ Fails form n text
 
-more_records : (form : Form) (n : ℕ) (text : List ℕ) → OpensWithRecord form text → EndsOrFails form (n + 1) (after_record form text) → EndsOrFails form n text
+more_records : (form : Form) (n : ℕ) (text : List ℕ) → OpensWithRecord form text → EndsOrFails form (n + 1) (after_record form text)
+    → EndsOrFails form n text
 more_records form n text opens (inl ends) = inl (record {
   packets = record_packet form text ∷ ends.packets;
   splits = (opens, refl, ends.splits);
@@ -71,7 +72,8 @@ more_records form n text opens (inr fails) = inr (record {
   fault_is = subst (λ (k : ℕ). record_fault form k fails.rest ≡ Some fails.fault) (omega arith) fails.fault_is;
 })
 
-fault_here : (form : Form) (n : ℕ) (text : List ℕ) (fault : PcapFault) → n ≤ PACKETS_MAX → text ≢ [] → record_fault form n text ≡ Some fault → EndsOrFails form n text
+fault_here : (form : Form) (n : ℕ) (text : List ℕ) (fault : PcapFault) → n ≤ PACKETS_MAX → text ≢ []
+    → record_fault form n text ≡ Some fault → EndsOrFails form n text
 fault_here form n text fault few left is = inr (record {
   fault = fault;
   packets = [];
@@ -93,7 +95,8 @@ records_end (suc fuel) form n (b ∷ bs) enough few =
       | None ↦ λ is.
           let whole = record_fault-none form n (b ∷ bs) few is in
           let shorter : length (after_record form (b ∷ bs)) ≤ fuel = omega (arith, length-drop (16 + captured form (b ∷ bs)) (b ∷ bs)) in
-          more_records form n (b ∷ bs) whole.opens (records_end fuel form (n + 1) (after_record form (b ∷ bs)) shorter (omega (arith, whole.few)))
+          let more = records_end fuel form (n + 1) (after_record form (b ∷ bs)) shorter (omega (arith, whole.few)) in
+          more_records form n (b ∷ bs) whole.opens more
     ] in
     step (record_fault form n (b ∷ bs)) refl
 
@@ -131,7 +134,10 @@ Answer text = ((trace : Capture) × Pcap text trace) ⊎ ((fault : PcapFault) ×
 behind : (text : List ℕ) (form : Form) (link_type : ℕ) → HasHeader form link_type text → Answer text
 behind text form link_type header =
     elim (records_end (length (drop 24 text)) form 0 (drop 24 text) (omega arith) (omega arith)) [
-      | inl ends ↦ inl (record { link_type = link_type; packets = ends.packets }, record { form = form; header = header; records = ends.splits; count = omega (arith, ends.few) })
+      | inl ends ↦ inl (
+        record { link_type = link_type; packets = ends.packets },
+        record { form = form; header = header; records = ends.splits; count = omega (arith, ends.few) },
+      )
       | inr fails ↦ inr (
         fails.fault,
         first_behind form link_type text fails.fault header (record {
@@ -152,8 +158,14 @@ with_form text form has =
       | inr whole ↦ elim (cases_eq (half form.order 4 text) 2) [
         | inr other ↦ inr (Version (half form.order 4 text), (form, record { magic = has; whole = whole; version = refl; other = other }))
         | inl two ↦ elim (find_link_type (word form.order 20 text)) [
-          | inr unknown ↦ inr (LinkType (word form.order 20 text), (form, record { magic = has; whole = whole; version = two; link_type_is = refl; other = unknown }))
-          | inl known ↦ behind text form (word form.order 20 text) (record { magic = has; whole = whole; version = two; link_type_is = refl; known = known })
+          | inr unknown ↦
+              let header : HasOtherLinkType form (word form.order 20 text) text =
+              record { magic = has; whole = whole; version = two; link_type_is = refl; other = unknown } in
+              inr (LinkType (word form.order 20 text), (form, header))
+          | inl known ↦
+              let header : HasHeader form (word form.order 20 text) text =
+              record { magic = has; whole = whole; version = two; link_type_is = refl; known = known } in
+              behind text form (word form.order 20 text) header
         ]
       ]
     ]

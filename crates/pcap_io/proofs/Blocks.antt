@@ -21,7 +21,8 @@ AddsBuffered-whole p q r block piece (Ok done) added whole = record {
 AddsBuffered-whole p q r block piece (Err fault) added whole = AddsWhole-then p q r block piece (Err fault) added whole
 
 -- a text of two parts: the first but for what stands in the block, and then the second behind the block
-pub AddsBuffered-parts : (p q r : Part) (text first second block left : List ℕ) (result : Result (Unit {0}) WriteFault) → text ≡ first ++ second
+pub AddsBuffered-parts : (p q r : Part) (text first second block left : List ℕ) (result : Result (Unit {0}) WriteFault)
+    → text ≡ first ++ second
     → Buffers first p q block → AddsBuffered (block ++ second) q r left result → AddsBuffered text p r left result
 AddsBuffered-parts p q r text first second block left (Ok done) text_is begun ended = record {
   front = begun.front ++ ended.front;
@@ -37,11 +38,13 @@ AddsBuffered-parts p q r text first second block left (Err fault) text_is begun 
     (AddsWhole-then p q r begun.front (block ++ second) (Err fault) begun.added ended)
 
 -- a text of three parts: the first but for what stands in the block, and then a stop within the second behind the block
-pub AddsBuffered-stopped : (p q r : Part) (text first second third block : List ℕ) (fault other : WriteFault) → text ≡ first ++ (second ++ third)
+pub AddsBuffered-stopped : (p q r : Part) (text first second third block : List ℕ) (fault other : WriteFault)
+    → text ≡ first ++ (second ++ third)
     → Buffers first p q block → AddsWhole (block ++ second) q r (Err fault) → AddsWhole text p r (Err other)
 AddsBuffered-stopped p q r text first second third block fault other text_is begun stopped =
     let longer : AddsFront ((block ++ second) ++ third) q r = AddsFront-append q r (block ++ second) third stopped.0 in
-    let regrouped : AddsFront (block ++ (second ++ third)) q r = subst (λ (bytes : List ℕ). AddsFront bytes q r) (append_assoc block second third) longer in
+    let regrouped : AddsFront (block ++ (second ++ third)) q r =
+    subst (λ (bytes : List ℕ). AddsFront bytes q r) (append_assoc block second third) longer in
     AddsBuffered-parts p q r text first (second ++ third) block [] (Err fault) text_is begun (regrouped, stopped.1)
 
 -- one more text of a list behind those before it

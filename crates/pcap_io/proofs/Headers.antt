@@ -19,7 +19,8 @@ resolution_named bytes = if get_or bytes 0 0 == 0xd4 then Microseconds else (if 
 abbrev pub form_named : List ℕ → Form
 form_named bytes = record { order = order_named bytes; resolution = resolution_named bytes }
 
-pub form_named-magic : (order : ByteOrder) (resolution : Resolution) → form_named (magic order resolution) ≡ record { order = order; resolution = resolution }
+pub form_named-magic : (order : ByteOrder) (resolution : Resolution)
+    → form_named (magic order resolution) ≡ record { order = order; resolution = resolution }
 form_named-magic Little Microseconds = refl
 form_named-magic Little Nanoseconds = refl
 form_named-magic Big Microseconds = refl
@@ -30,7 +31,8 @@ one_form form other text p q =
     sym (form_named-magic form.order form.resolution) ∙ ap form_named (sym p ∙ q) ∙ form_named-magic other.order other.resolution
 
 -- two headers of one text say the same
-pub one_header : (form other : Form) (link_type rival : ℕ) (text : List ℕ) → HasHeader form link_type text → HasHeader other rival text → link_type ≡ rival
+pub one_header : (form other : Form) (link_type rival : ℕ) (text : List ℕ) → HasHeader form link_type text → HasHeader other rival text
+    → link_type ≡ rival
 one_header form other link_type rival text p q =
     let same = one_form form other text p.magic q.magic in
     p.link_type_is ∙ ap (λ (f : Form). word f.order 20 text) same ∙ sym q.link_type_is

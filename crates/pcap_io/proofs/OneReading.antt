@@ -32,7 +32,9 @@ one_reading text trace other p q =
 no_fault_behind : (text : List ℕ) (trace : Capture) (fault : PcapFault) → Pcap text trace → HasFaultBehindHeader fault text → ⊥
 no_fault_behind text trace fault p has =
     let form = one_form p.form has.form text p.header.magic has.header.magic in
-    no_record_fault has.form fault (drop 24 text) trace.packets p.count (subst (λ (f : Form). Splits f (drop 24 text) trace.packets []) form p.records) has.body
+    let records : Splits has.form (drop 24 text) trace.packets [] =
+    subst (λ (f : Form). Splits f (drop 24 text) trace.packets []) form p.records in
+    no_record_fault has.form fault (drop 24 text) trace.packets p.count records has.body
 
 pub no_fault : (text : List ℕ) (trace : Capture) (fault : PcapFault) → Pcap text trace → PcapFirst text fault → ⊥
 no_fault text trace NotPcap p has = has p.form p.header.magic
@@ -74,10 +76,12 @@ header_fault form text =
 header_fault-short : (form : Form) (text : List ℕ) → length text < 24 → header_fault form text ≡ Some ShortHeader
 header_fault-short form text short = grind (arith, nat_tests)
 
-header_fault-version : (form : Form) (text : List ℕ) (major : ℕ) → 24 ≤ length text → major ≡ half form.order 4 text → major ≢ 2 → header_fault form text ≡ Some (Version major)
+header_fault-version : (form : Form) (text : List ℕ) (major : ℕ) → 24 ≤ length text → major ≡ half form.order 4 text → major ≢ 2
+    → header_fault form text ≡ Some (Version major)
 header_fault-version form text major whole version other = grind (arith, nat_tests)
 
-header_fault-link_type : (form : Form) (text : List ℕ) (link_type : ℕ) → 24 ≤ length text → half form.order 4 text ≡ 2 → link_type ≡ word form.order 20 text → is_known link_type ≡ false → header_fault form text ≡ Some (LinkType link_type)
+header_fault-link_type : (form : Form) (text : List ℕ) (link_type : ℕ) → 24 ≤ length text → half form.order 4 text ≡ 2
+    → link_type ≡ word form.order 20 text → is_known link_type ≡ false → header_fault form text ≡ Some (LinkType link_type)
 header_fault-link_type form text link_type whole version is other =
     let long : nat_lt (length text) 24 ≡ false = grind (arith, nat_tests) in
     let two : (half form.order 4 text == 2) ≡ true = rw version refl in
@@ -93,10 +97,12 @@ header_fault-none form text link_type h =
 
 -- behind a magic, the header has this fault, or it has none and a record has it
 abbrev FailsBehindMagic : Form → List ℕ → PcapFault → Type 0
-FailsBehindMagic form text fault = (header_fault form text ≡ Some fault) ⊎ ((header_fault form text ≡ None) × HasRecordFault form fault (drop 24 text))
+FailsBehindMagic form text fault =
+    (header_fault form text ≡ Some fault) ⊎ ((header_fault form text ≡ None) × HasRecordFault form fault (drop 24 text))
 
 abbrev FailsAt : List ℕ → PcapFault → Type 0
-FailsAt text fault = ((fault ≡ NotPcap) × ((form : Form) → HasMagic form text → ⊥)) ⊎ ((form : Form) × HasMagic form text × FailsBehindMagic form text fault)
+FailsAt text fault =
+    ((fault ≡ NotPcap) × ((form : Form) → HasMagic form text → ⊥)) ⊎ ((form : Form) × HasMagic form text × FailsBehindMagic form text fault)
 
 behind_header : (text : List ℕ) (fault : PcapFault) → HasFaultBehindHeader fault text → FailsAt text fault
 behind_header text fault has = inr (has.form, has.header.magic, inr (header_fault-none has.form text has.link_type has.header, has.body))
@@ -106,7 +112,8 @@ fails_at text NotPcap has = inl (refl, has)
 fails_at text ShortHeader has = inr (has.0, has.1.magic, inl (header_fault-short has.0 text has.1.short))
 fails_at text (Version major) has = inr (has.0, has.1.magic, inl (header_fault-version has.0 text major has.1.whole has.1.version has.1.other))
 fails_at text (LinkType link_type) has =
-    inr (has.0, has.1.magic, inl (header_fault-link_type has.0 text link_type has.1.whole has.1.version has.1.link_type_is (is_known-false link_type has.1.other)))
+    let unknown = is_known-false link_type has.1.other in
+    inr (has.0, has.1.magic, inl (header_fault-link_type has.0 text link_type has.1.whole has.1.version has.1.link_type_is unknown))
 fails_at text (Truncated n) has = behind_header text (Truncated n) has
 fails_at text (TimeRange n) has = behind_header text (TimeRange n) has
 fails_at text (TooLong n) has = behind_header text (TooLong n) has
@@ -118,7 +125,8 @@ some_same fault other told p q = let e : Some fault ≡ Some other = sym p ∙ q
 some_none : {X : Type 0} (fault : PcapFault) (told : Option PcapFault) → told ≡ Some fault → told ≡ None → X
 some_none fault told p q = let e : Some fault ≡ None = sym p ∙ q in absurd cc
 
-one_behind_magic : (form : Form) (text : List ℕ) (fault other : PcapFault) → FailsBehindMagic form text fault → FailsBehindMagic form text other → fault ≡ other
+one_behind_magic : (form : Form) (text : List ℕ) (fault other : PcapFault) → FailsBehindMagic form text fault
+    → FailsBehindMagic form text other → fault ≡ other
 one_behind_magic form text fault other (inl p) (inl q) = some_same fault other (header_fault form text) p q
 one_behind_magic form text fault other (inl p) (inr q) = some_none fault (header_fault form text) p q.0
 one_behind_magic form text fault other (inr p) (inl q) = some_none other (header_fault form text) q p.0
@@ -149,7 +157,8 @@ version_of_record form n text major told = grind (arith, nat_tests)
 link_type_of_record : (form : Form) (n : ℕ) (text : List ℕ) (link_type : ℕ) → record_fault form n text ≡ Some (LinkType link_type) → ⊥
 link_type_of_record form n text link_type told = grind (arith, nat_tests)
 
-pub first_behind : (form : Form) (link_type : ℕ) (text : List ℕ) (fault : PcapFault) → HasHeader form link_type text → HasRecordFault form fault (drop 24 text) → PcapFirst text fault
+pub first_behind : (form : Form) (link_type : ℕ) (text : List ℕ) (fault : PcapFault) → HasHeader form link_type text
+    → HasRecordFault form fault (drop 24 text) → PcapFirst text fault
 first_behind form link_type text NotPcap header has = absurd (not_pcap_of_record form (length has.packets) has.rest has.fault_is)
 first_behind form link_type text ShortHeader header has = absurd (short_header_of_record form (length has.packets) has.rest has.fault_is)
 first_behind form link_type text (Version major) header has = absurd (version_of_record form (length has.packets) has.rest major has.fault_is)

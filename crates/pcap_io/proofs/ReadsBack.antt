@@ -78,11 +78,14 @@ record CanBeRead (packet : Packet) : Type 0 where
   within : IsPacket packet
   early : packet.time_ns / 10 ^ 9 ≤ RECORD_SECONDS_MAX
 
-opens_back : (packet : Packet) (rest : List ℕ) → CanBeRead packet → OpensWithRecord written (record_header_text packet ++ (packet.bytes ++ rest))
+opens_back : (packet : Packet) (rest : List ℕ) → CanBeRead packet
+    → OpensWithRecord written (record_header_text packet ++ (packet.bytes ++ rest))
 opens_back packet rest can =
     let text = record_header_text packet ++ (packet.bytes ++ rest) in
     let numbers = numbers_back packet (packet.bytes ++ rest) can.within in
-    let len : length text ≡ 16 + (length packet.bytes + length rest) = omega (arith, length-append (record_header_text packet) (packet.bytes ++ rest), length-append packet.bytes rest, length-record_header_text packet) in
+    let header_len = length-record_header_text packet in
+    let len : length text ≡ 16 + (length packet.bytes + length rest) =
+    omega (arith, length-append (record_header_text packet) (packet.bytes ++ rest), length-append packet.bytes rest, header_len) in
     record {
       header = omega (arith, len);
       time = omega (arith, numbers.seconds_are, can.early);
@@ -92,24 +95,30 @@ opens_back packet rest can =
     }
 
 -- the packet and the rest of a record that was written
-packet_back : (packet : Packet) (rest : List ℕ) → CanBeRead packet → packet ≡ record_packet written (record_header_text packet ++ (packet.bytes ++ rest))
+packet_back : (packet : Packet) (rest : List ℕ) → CanBeRead packet
+    → packet ≡ record_packet written (record_header_text packet ++ (packet.bytes ++ rest))
 packet_back packet rest can =
     let text = record_header_text packet ++ (packet.bytes ++ rest) in
     let numbers = numbers_back packet (packet.bytes ++ rest) can.within in
     let time : word Little 0 text * 10 ^ 9 + word Little 4 text ≡ packet.time_ns = omega (arith, numbers.seconds_are, numbers.fraction_is) in
     let with_time : Packet → Packet = λ p. record p { time_ns = word Little 0 text * 10 ^ 9 + word Little 4 text } in
-    let body : drop 16 text ≡ packet.bytes ++ rest = drop_at (record_header_text packet) (packet.bytes ++ rest) 16 (length-record_header_text packet) in
-    let bytes : take (word Little 8 text) (drop 16 text) ≡ packet.bytes = rw (numbers.captured_is, body) (take_at packet.bytes rest (length packet.bytes) refl) in
+    let body : drop 16 text ≡ packet.bytes ++ rest =
+    drop_at (record_header_text packet) (packet.bytes ++ rest) 16 (length-record_header_text packet) in
+    let bytes : take (word Little 8 text) (drop 16 text) ≡ packet.bytes =
+    rw (numbers.captured_is, body) (take_at packet.bytes rest (length packet.bytes) refl) in
     ap (λ (t : ℕ). record packet { time_ns = t }) (sym time)
     ∙ ap (λ (n : ℕ). with_time (record packet { original = n })) (sym numbers.original_is)
     ∙ ap (λ (bs : List ℕ). with_time (record { time_ns = packet.time_ns; original = word Little 12 text; bytes = bs })) (sym bytes)
 
-after_back : (packet : Packet) (rest : List ℕ) → CanBeRead packet → after_record written (record_header_text packet ++ (packet.bytes ++ rest)) ≡ rest
+after_back : (packet : Packet) (rest : List ℕ) → CanBeRead packet
+    → after_record written (record_header_text packet ++ (packet.bytes ++ rest)) ≡ rest
 after_back packet rest can =
     let text = record_header_text packet ++ (packet.bytes ++ rest) in
     let numbers = numbers_back packet (packet.bytes ++ rest) can.within in
     let regrouped : text ≡ record_text packet ++ rest = sym (append_assoc (record_header_text packet) packet.bytes rest) in
-    let len : length (record_text packet) ≡ 16 + word Little 8 text = omega (arith, length-append (record_header_text packet) packet.bytes, length-record_header_text packet, numbers.captured_is) in
+    let header_len = length-record_header_text packet in
+    let len : length (record_text packet) ≡ 16 + word Little 8 text =
+    omega (arith, length-append (record_header_text packet) packet.bytes, header_len, numbers.captured_is) in
     ap (drop (16 + word Little 8 text)) regrouped ∙ drop_at (record_text packet) rest (16 + word Little 8 text) len
 
 splits_back : (packets : List Packet) → AllByRecursion CanBeRead packets → Splits written (flat_map record_text packets) packets []
@@ -120,16 +129,20 @@ splits_back (packet ∷ packets) can =
     sym (append_assoc (record_header_text packet) packet.bytes rest) ∙ sym (flat_map-cons record_text packet packets) in
     let after : Splits written (after_record written (record_header_text packet ++ (packet.bytes ++ rest))) packets [] =
     subst (λ (text : List ℕ). Splits written text packets []) (sym (after_back packet rest can.0)) (splits_back packets can.1) in
-    subst (λ (text : List ℕ). Splits written text (packet ∷ packets) []) regrouped (opens_back packet rest can.0, packet_back packet rest can.0, after)
+    subst (λ (text : List ℕ). Splits written text (packet ∷ packets) []) regrouped
+    (opens_back packet rest can.0, packet_back packet rest can.0, after)
 
-pub reads_back : (trace : Capture) → IsTrace trace → All (λ packet. packet.time_ns / 10 ^ 9 ≤ RECORD_SECONDS_MAX) trace.packets → Pcap (pcap_text trace) trace
+pub reads_back : (trace : Capture) → IsTrace trace → All (λ packet. packet.time_ns / 10 ^ 9 ≤ RECORD_SECONDS_MAX) trace.packets
+    → Pcap (pcap_text trace) trace
 reads_back trace within early =
     let body = flat_map record_text trace.packets in
     let can : All CanBeRead trace.packets = λ i d lt. record { within = within.packets i d lt; early = early i d lt } in
-    let body_is : body ≡ drop 24 (header_text trace.link_type ++ body) = sym (drop_at (header_text trace.link_type) body 24 (length-header_text trace.link_type)) in
+    let body_is : body ≡ drop 24 (header_text trace.link_type ++ body) =
+    sym (drop_at (header_text trace.link_type) body 24 (length-header_text trace.link_type)) in
+    let splits = splits_back trace.packets (recursion_from_All CanBeRead trace.packets can) in
     record {
       form = written;
       header = header_back trace.link_type body within.link_type;
-      records = subst (λ (text : List ℕ). Splits written text trace.packets []) body_is (splits_back trace.packets (recursion_from_All CanBeRead trace.packets can));
+      records = subst (λ (text : List ℕ). Splits written text trace.packets []) body_is splits;
       count = within.count;
     }

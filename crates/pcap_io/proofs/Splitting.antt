@@ -16,8 +16,11 @@ use Rattle.pcap_io.specs.Faults.{record_fault, HasRecordFault}
 pub Splits-push : (form : Form) (text : List ℕ) (packets : List Packet) (rest : List ℕ) (packet : Packet) (after : List ℕ)
     → Splits form text packets rest → OpensWithRecord form rest → packet ≡ record_packet form rest → after ≡ after_record form rest
     → Splits form text (packets ++ packet ∷ []) after
-Splits-push form text [] rest packet after splits opens packet_is after_is =
-    (subst (λ (t : List ℕ). OpensWithRecord form t) (sym splits) opens, packet_is ∙ ap (record_packet form) (sym splits), ap (after_record form) splits ∙ sym after_is)
+Splits-push form text [] rest packet after splits opens packet_is after_is = (
+  subst (λ (t : List ℕ). OpensWithRecord form t) (sym splits) opens,
+  packet_is ∙ ap (record_packet form) (sym splits),
+  ap (after_record form) splits ∙ sym after_is,
+)
 Splits-push form text (p ∷ ps) rest packet after splits opens packet_is after_is =
     (splits.0, splits.1, Splits-push form (after_record form text) ps rest packet after splits.2 opens packet_is after_is)
 
@@ -29,8 +32,10 @@ pub stuck_at_nothing : (form : Form) (n : ℕ) → IsStuck form n []
 stuck_at_nothing form n lt opens = absurd (omega (arith, opens.header))
 
 -- what opens with a whole record has no fault there
-pub record_fault-whole : (form : Form) (n : ℕ) (text : List ℕ) → n < PACKETS_MAX → OpensWithRecord form text → record_fault form n text ≡ None
-record_fault-whole form n text lt opens = grind (arith, nat_tests, opens.header, opens.time, opens.captured_length, opens.original_length, opens.whole)
+pub record_fault-whole : (form : Form) (n : ℕ) (text : List ℕ) → n < PACKETS_MAX → OpensWithRecord form text
+    → record_fault form n text ≡ None
+record_fault-whole form n text lt opens =
+    grind (arith, nat_tests, opens.header, opens.time, opens.captured_length, opens.original_length, opens.whole)
 
 pub stuck_at_fault : (form : Form) (n : ℕ) (text : List ℕ) (fault : PcapFault) → record_fault form n text ≡ Some fault → IsStuck form n text
 stuck_at_fault form n text fault is lt opens =
@@ -60,7 +65,8 @@ Splits-meet form n text (p ∷ ps) (q ∷ qs) rest other few few' s t stuck stuc
     record { packets_are = cc; rest_is = m.rest_is }
 
 -- the packet of a whole record is within the limits, if its time is one that a record can say
-pub IsPacket-record_packet : (form : Form) (text : List ℕ) → OpensWithRecord form text → IsRecordTime (time_ns form text) → IsPacket (record_packet form text)
+pub IsPacket-record_packet : (form : Form) (text : List ℕ) → OpensWithRecord form text → IsRecordTime (time_ns form text)
+    → IsPacket (record_packet form text)
 IsPacket-record_packet form text opens early = record {
   time = omega arith;
   original = opens.original_length;
@@ -99,7 +105,8 @@ no_record_fault form fault text packets few splits has =
     has.left (one_split form text has.packets packets has.rest [] has.count few has.before splits
     (stuck_at_fault form (length has.packets) has.rest fault has.fault_is) (stuck_at_nothing form (length packets))).rest_is
 
-pub one_record_fault : (form : Form) (fault other : PcapFault) (text : List ℕ) → HasRecordFault form fault text → HasRecordFault form other text → fault ≡ other
+pub one_record_fault : (form : Form) (fault other : PcapFault) (text : List ℕ) → HasRecordFault form fault text
+    → HasRecordFault form other text → fault ≡ other
 one_record_fault form fault other text p q =
     let same = one_split form text p.packets q.packets p.rest q.rest p.count q.count p.before q.before
     (stuck_at_fault form (length p.packets) p.rest fault p.fault_is) (stuck_at_fault form (length q.packets) q.rest other q.fault_is) in

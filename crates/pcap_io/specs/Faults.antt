@@ -1,4 +1,4 @@
--- What is wrong with a text first.
+-- What is wrong with a file first (`text` is its bytes).
 use Rattle.std.specs.Prelude.{◌≡◌, ◌≢◌, ℕ, ◌+◌, ◌<◌, ◌≤◌, ◌==◌, nat_lt, ◌||◌, if◌then◌else◌, List, [], length, drop, Option, Some, None}
 use Rattle.mn_base.specs.declared.limits.TheConstants.{PACKETS_MAX, PACKET_BYTES_MAX, RECORD_SECONDS_MAX}
 use Rattle.pcap_io.specs.declared.fault.PcapFault.{PcapFault}

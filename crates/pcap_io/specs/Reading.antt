@@ -1,4 +1,4 @@
--- What a text says: a header in one of the four forms, and then whole records and nothing else.
+-- What a file says (`text` is its bytes): a header in one of the four forms, and then whole records and nothing else.
 use Rattle.std.specs.Prelude.{◌≡◌, ℕ, ◌+◌, ◌*◌, ◌^◌, ◌≤◌, List, [], ◌∷◌, length, take, drop}
 use Rattle.mn_base.specs.declared.limits.TheConstants.{PACKETS_MAX, PACKET_BYTES_MAX, RECORD_SECONDS_MAX}
 use Rattle.pcap_io.specs.declared.form.Form.{Form}

@@ -12,12 +12,14 @@ use Rattle.pcap_io.specs.Form.{magic}
 -- little-endian and in nanoseconds, version 2.4, zone and sigfigs 0, snaplen the greatest length
 unfoldable pub header_text : ℕ → List ℕ
 header_text link_type =
-    magic Little Nanoseconds ++ to_le_bytes w16 2 ++ to_le_bytes w16 4 ++ to_le_bytes w32 0 ++ to_le_bytes w32 0 ++ to_le_bytes w32 PACKET_BYTES_MAX ++ to_le_bytes w32 link_type
+    magic Little Nanoseconds ++ to_le_bytes w16 2 ++ to_le_bytes w16 4 ++ to_le_bytes w32 0 ++ to_le_bytes w32 0
+    ++ to_le_bytes w32 PACKET_BYTES_MAX ++ to_le_bytes w32 link_type
 
 -- seconds, nanoseconds within the second, captured and original length
 unfoldable pub record_header_text : Packet → List ℕ
 record_header_text packet =
-    to_le_bytes w32 (packet.time_ns / 10 ^ 9) ++ to_le_bytes w32 (packet.time_ns % 10 ^ 9) ++ to_le_bytes w32 (length packet.bytes) ++ to_le_bytes w32 packet.original
+    to_le_bytes w32 (packet.time_ns / 10 ^ 9) ++ to_le_bytes w32 (packet.time_ns % 10 ^ 9)
+    ++ to_le_bytes w32 (length packet.bytes) ++ to_le_bytes w32 packet.original
 
 abbrev pub record_text : Packet → List ℕ
 record_text packet = record_header_text packet ++ packet.bytes

@@ -3,7 +3,7 @@ ghost use Rattle.pcap_io.specs.declared.form.Form.{Form};
 ghost use Rattle.pcap_io.specs.Form.{half, word};
 ghost use Rattle.pcap_io.specs.Reading.{HasMagic};
 
-/// Which byte of a number stands first.
+/// Which byte of a number stands first: the least (little-endian) or the greatest (big-endian).
 #[derive(Clone, Copy)]
 pub enum ByteOrder {
     Little,
@@ -11,7 +11,7 @@ pub enum ByteOrder {
 }
 
 impl ByteOrder {
-    /// The number of the two bytes at an offset.
+    /// The number of the two bytes at an offset, in bytes.
     #[tactic(auto, unfolding(crate::specs::Form::half))]
     pub fn half(self, text: &[u8], offset: usize) -> u16
         requires { offset + 2 ≤ length text.now }
@@ -24,7 +24,7 @@ impl ByteOrder {
         }
     }
 
-    /// The number of the four bytes at an offset.
+    /// The number of the four bytes at an offset, in bytes.
     #[tactic(auto, unfolding(crate::specs::Form::word))]
     pub fn word(self, text: &[u8], offset: usize) -> u32
         requires { offset + 4 ≤ length text.now }
@@ -50,7 +50,7 @@ pub enum Resolution {
     Nanoseconds,
 }
 
-/// The form of a capture, which its first four bytes name.
+/// The form of a capture, which its first four bytes (the magic number) name.
 #[derive(Clone, Copy)]
 pub struct Form {
     pub order: ByteOrder,

@@ -1,6 +1,6 @@
-// Captures in the pcap format: what a text says, what is wrong with it first, and what is written.
-// It stands on mn_base (limits, bytes, refusals), mn_edge (hosts) and thiserror.
-// Its contracts speak in `Pcap`, the relation of a text to its trace, `PcapFirst` and `pcap_text`.
+//! Captures in the classic pcap format: what a file says, what is wrong with it first, and what is written.
+//! It stands on mn_base (limits, bytes, refusals) and mn_edge (hosts).
+//! Its contracts speak in `Pcap`, the relation of a file's bytes to its trace, in `PcapFirst`, the first fault, and in `pcap_text`, the one written form.
 #![tactic(auto)]
 
 mod block;
@@ -13,6 +13,7 @@ mod trace;
 mod writing;
 
 pub use fault::PcapFault;
+pub use form::ByteOrder;
 pub use packet::Packet;
 pub use reading::read_pcap;
 pub use trace::Trace;

@@ -14,9 +14,10 @@ use mn_base::limits::{PACKET_BYTES_MAX, PACKETS_MAX, RECORD_SECONDS_MAX, TRACE_B
 use mn_base::{Bytes, Refusal};
 use std::alloc::Global;
 
-/// The bytes of a header, and of the header of a record.
+/// The bytes of a file's header.
 const HEADER_BYTES: usize = 24;
 
+/// The bytes of a record's header.
 const RECORD_HEADER_BYTES: usize = 16;
 
 /// What a header says.
@@ -124,10 +125,12 @@ fn read_packets(alloc: Global, form: Form, body: &[u8]) -> Result<Vec<Packet>, R
     Ok(packets)
 }
 
-/// Reads a capture in the pcap format of major version 2, laid out as in 2.4.
+/// Reads the bytes of a capture in the pcap format of major version 2, laid out as in 2.4
+/// (https://www.tcpdump.org/manpages/pcap-savefile.5.html).
 ///
 /// The magic number tells the byte order and the resolution (us or ns) of all that follows. Minor version, zone,
 /// sigfigs and snaplen aren't looked at. The answer has the time of each packet in ns.
+/// The first fault from the start of the file is reported; `NoMemory` says nothing of the file.
 pub fn read_pcap(alloc: Global, text: &[u8]) -> Result<Trace, Refusal<PcapFault>>
     requires { length text.now ≤ TRACE_BYTES_MAX }
     ensures found { IfOk result (λ trace. Pcap text.now trace) }

@@ -235,3 +235,59 @@ fn a_full_host_holds_a_front_of_the_text(rt: HostRuntime) -> Result<(), Fail> {
     assert_eq!(rt; host.written_bytes(Role::Out), ONE.split_at(30).0);
     Ok(())
 }
+
+#[test]
+fn the_time_base_is_the_least_time(rt: HostRuntime) -> Result<(), Fail> {
+    let trace = read_pcap(rt.alloc(), &BIG_NANOSECONDS)?;
+    assert_eq!(rt; trace.time_base(), 10_000_000_000);
+    let none = Trace::new(101, Vec::new(rt.alloc()));
+    assert_eq!(rt; none.time_base(), 0);
+    Ok(())
+}
+
+#[test]
+fn faults_print_their_text(rt: HostRuntime) -> Result<(), Fail> {
+    for (fault, text) in [
+        (PcapFault::NotPcap, "not pcap"),
+        (PcapFault::ShortHeader, "short header"),
+        (PcapFault::Version(1), "version 1"),
+        (PcapFault::LinkType(113), "link type 113"),
+        (PcapFault::Truncated(0), "packet 0 is cut short"),
+        (PcapFault::TimeRange(7), "time of packet 7 out of range"),
+        (PcapFault::TooLong(12), "packet 12 is too long"),
+        (PcapFault::TooMany, "too many packets"),
+    ] {
+        assert_eq!(rt; fault.to_string(rt.alloc())?.as_str(), text);
+    }
+    Ok(())
+}
+
+/// The written form of packets of so many bytes each, all at time 0 and 60 bytes long on the wire.
+fn written_form(alloc: Global, sizes: &[u32]) -> Result<Vec<u8>, Fail> {
+    let mut text = Vec::from_slice(alloc, ONE.split_at(24).0)?;
+    for size in sizes {
+        text.extend_from_slice(&[0; 8])?;
+        text.extend_from_slice(&size.to_le_bytes())?;
+        text.extend_from_slice(&[60, 0, 0, 0])?;
+        for number in 0..*size {
+            text.push((number % 251) as u8)?;
+        }
+    }
+    Ok(text)
+}
+
+/// A block of 65,536 bytes is filled exactly, packets are longer than a block, and many fit into one.
+#[test]
+fn long_traces_are_written_whole(rt: HostRuntime) -> Result<(), Fail> {
+    let text = written_form(
+        rt.alloc(),
+        &[
+            65_496, 65_520, 0, 70_000, 1, 30_000, 30_000, 30_000, 65_536, 2,
+        ],
+    )?;
+    assert!(rt; text.len() <= 500_000);
+    let trace = read_pcap(rt.alloc(), text.as_slice())?;
+    let host = written_to(&rt, rt.alloc(), &trace, 500_000, Ok(()))?;
+    assert!(rt; host.written_bytes(Role::Out) == text.as_slice());
+    Ok(())
+}

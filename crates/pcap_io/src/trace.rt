@@ -6,8 +6,8 @@ use std::marker::Model;
 
 /// A capture: its link type and its packets, in the order of the file.
 ///
-/// The link type is 1 (Ethernet), 101 (raw IP) or 228 (IPv4), and each packet is within the limits: at most
-/// 1,048,576 packets, each with a time below 2^32 s and at most 262,144 bytes, both captured and original.
+/// The link type is 1 (Ethernet), 101 (raw IP) or 228 (IPv4), and each packet is within the limits: at most `PACKETS_MAX`
+/// packets, each with a time below 2^32 s and at most `PACKET_BYTES_MAX` bytes, both captured and original.
 #[derive(Drop)]
 pub struct Trace {
     link_type: u32,
@@ -33,7 +33,7 @@ impl Trace {
         Trace { link_type, packets }
     }
 
-    /// The link type, as pcap numbers them.
+    /// The link type, as pcap numbers them (https://www.tcpdump.org/linktypes.html).
     pub fn link_type(&self) -> u32
         ensures value { result ≡ self.now.link_type }
         ensures within { IsTrace self.now }

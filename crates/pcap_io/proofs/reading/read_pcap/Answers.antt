@@ -22,7 +22,8 @@ returns-in-Err-clause-only_fault c = λ fault. gives_fault c.args.text.now (Err 
 refused : (c : goal.After-from_residual) → IfFault c.in_err-packets.field-0.0 (PcapFirst c.args.text.now)
 refused c =
     refusal_behind c.in-Ok.header.form c.in-Ok.header.link_type c.args.text.now c.in_err-packets.field-0.0 c.in-Ok.ensures
-    (subst (λ (body : List ℕ). IfFault c.in_err-packets.field-0.0 (λ fault. HasRecordFault c.in-Ok.header.form fault body)) c.split_at.ensures.back c.in_err-packets.ensures.fault)
+    (subst (λ (body : List ℕ). IfFault c.in_err-packets.field-0.0 (λ fault. HasRecordFault c.in-Ok.header.form fault body))
+    c.split_at.ensures.back c.in_err-packets.ensures.fault)
 
 pub returns-in_err-packets-clause-only_trace : goal.returns-in_err-packets-clause-only_trace
 returns-in_err-packets-clause-only_trace c =
