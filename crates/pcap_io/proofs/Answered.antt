@@ -4,12 +4,13 @@ use Rattle.std.specs.Str.{bytes_eq}
 use Rattle.std.proofs.lemmas.Bool.{cases_Bool, cases_lt, cases_eq, false≢true}
 use Rattle.std.proofs.lemmas.Bool.Decides.{nat_tests}
 use Rattle.std.proofs.lemmas.Slice.Eq.{bytes_eq-Decides}
-use Rattle.mn_base.specs.declared.limits.TheConstants.{PACKETS_MAX}
+use Rattle.mn_base.specs.declared.limits.TheConstants.{PACKETS_MAX, LINK_TYPE_ETHERNET, LINK_TYPE_RAW, LINK_TYPE_IPV4}
 use Rattle.pcap_io.specs.declared.fault.PcapFault.{PcapFault}
 use Rattle.pcap_io.specs.declared.fault.PcapFault.TheVariants.{NotPcap, ShortHeader, Version, LinkType}
 use Rattle.pcap_io.specs.declared.form.Form.{Form}
 use Rattle.pcap_io.specs.declared.packet.Packet.{Packet}
-use Rattle.pcap_io.specs.Capture.{Capture, IsLinkType}
+use Rattle.mn_base.specs.Ranges.{IsLinkType}
+use Rattle.pcap_io.specs.Capture.{Capture}
 use Rattle.pcap_io.specs.Form.{magic, half, word}
 use Rattle.pcap_io.specs.Reading.{HasMagic, HasHeader, OpensWithRecord, captured, record_packet, after_record, Splits, Pcap}
 use Rattle.pcap_io.specs.Faults.{HasOtherLinkType, record_fault, PcapFirst}
@@ -117,11 +118,11 @@ find_form text =
 
 find_link_type : (n : ℕ) → IsLinkType n ⊎ (IsLinkType n → ⊥)
 find_link_type n =
-    elim (cases_eq n 1) [
+    elim (cases_eq n LINK_TYPE_ETHERNET) [
       | inl one ↦ inl (inl one)
-      | inr not_one ↦ elim (cases_eq n 101) [
+      | inr not_one ↦ elim (cases_eq n LINK_TYPE_RAW) [
         | inl raw ↦ inl (inr (inl raw))
-        | inr not_raw ↦ elim (cases_eq n 228) [
+        | inr not_raw ↦ elim (cases_eq n LINK_TYPE_IPV4) [
           | inl four ↦ inl (inr (inr four))
           | inr not_four ↦ inr (λ known. elim known [ inl e ↦ not_one e | inr rest ↦ elim rest [ inl e ↦ not_raw e | inr e ↦ not_four e ] ])
         ]

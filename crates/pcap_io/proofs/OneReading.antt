@@ -2,6 +2,7 @@
 use Rattle.std.proofs.Common.{◌≡◌, ◌≢◌, ℕ, ◌<◌, ◌≤◌, Bool, true, false, nat_lt, ◌==◌, ◌||◌, if◌then◌else◌, List, [], length, drop, Option, Some, None, Result, Ok, Err, refl, sym, ap, subst, ◌∙◌, ◌⊎◌, inl, inr, arith}
 use Rattle.std.specs.Result.{IfOk, IfErr}
 use Rattle.std.proofs.lemmas.Bool.Decides.{nat_tests}
+use Rattle.mn_base.specs.declared.limits.TheConstants.{LINK_TYPE_ETHERNET, LINK_TYPE_RAW, LINK_TYPE_IPV4}
 use Rattle.mn_base.specs.declared.refusal.Refusal.{Refusal}
 use Rattle.mn_base.specs.declared.refusal.Refusal.TheVariants as refusal
 use Rattle.mn_base.specs.Refused.{IfFault, Gives, Refuses}
@@ -9,7 +10,8 @@ use Rattle.pcap_io.specs.declared.fault.PcapFault.{PcapFault}
 use Rattle.pcap_io.specs.declared.fault.PcapFault.TheVariants.{NotPcap, ShortHeader, Version, LinkType, Truncated, TimeRange, TooLong, TooMany}
 use Rattle.pcap_io.specs.declared.form.Form.{Form}
 use Rattle.pcap_io.specs.declared.packet.Packet.{Packet}
-use Rattle.pcap_io.specs.Capture.{Capture, IsLinkType}
+use Rattle.mn_base.specs.Ranges.{IsLinkType}
+use Rattle.pcap_io.specs.Capture.{Capture}
 use Rattle.pcap_io.specs.Form.{half, word}
 use Rattle.pcap_io.specs.Reading.{HasMagic, HasHeader, Splits, Pcap}
 use Rattle.pcap_io.specs.Faults.{PcapFirst, HasRecordFault, HasFaultBehindHeader, record_fault}
@@ -54,16 +56,16 @@ no_fault text trace TooMany p has = no_fault_behind text trace TooMany p has
 -- ---- two first faults are one
 
 abbrev is_known : ℕ → Bool
-is_known n = (n == 1) || (n == 101) || (n == 228)
+is_known n = (n == LINK_TYPE_ETHERNET) || (n == LINK_TYPE_RAW) || (n == LINK_TYPE_IPV4)
 
 is_known-true : (n : ℕ) → IsLinkType n → is_known n ≡ true
 is_known-true n known = elim known [ inl one ↦ rw one refl | inr rest ↦ elim rest [ inl raw ↦ rw raw refl | inr four ↦ rw four refl ] ]
 
 is_known-false : (n : ℕ) → (IsLinkType n → ⊥) → is_known n ≡ false
 is_known-false n other =
-    let one : n ≢ 1 = λ e. other (inl e) in
-    let raw : n ≢ 101 = λ e. other (inr (inl e)) in
-    let four : n ≢ 228 = λ e. other (inr (inr e)) in
+    let one : n ≢ LINK_TYPE_ETHERNET = λ e. other (inl e) in
+    let raw : n ≢ LINK_TYPE_RAW = λ e. other (inr (inl e)) in
+    let four : n ≢ LINK_TYPE_IPV4 = λ e. other (inr (inr e)) in
     grind (arith, nat_tests)
 
 -- what is wrong with a header behind its magic

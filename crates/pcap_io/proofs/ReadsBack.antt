@@ -10,7 +10,8 @@ use Rattle.pcap_io.specs.declared.form.ByteOrder.TheVariants.{Little}
 use Rattle.pcap_io.specs.declared.form.Resolution.TheVariants.{Nanoseconds}
 use Rattle.pcap_io.specs.declared.form.Form.{Form}
 use Rattle.pcap_io.specs.declared.packet.Packet.{Packet}
-use Rattle.pcap_io.specs.Capture.{Capture, IsLinkType, IsPacket, IsTrace}
+use Rattle.mn_base.specs.Ranges.{IsLinkType}
+use Rattle.pcap_io.specs.Capture.{Capture, IsPacket, IsTrace}
 use Rattle.pcap_io.specs.Form.{half, word}
 use Rattle.pcap_io.specs.Reading.{HasHeader, OpensWithRecord, record_packet, after_record, Splits, Pcap}
 use Rattle.pcap_io.specs.Writing.{header_text, record_header_text, record_text, pcap_text}

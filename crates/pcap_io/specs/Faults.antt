@@ -5,7 +5,7 @@ use Rattle.pcap_io.specs.declared.fault.PcapFault.{PcapFault}
 use Rattle.pcap_io.specs.declared.fault.PcapFault.TheVariants.{NotPcap, ShortHeader, Version, LinkType, Truncated, TimeRange, TooLong, TooMany}
 use Rattle.pcap_io.specs.declared.form.Form.{Form}
 use Rattle.pcap_io.specs.declared.packet.Packet.{Packet}
-use Rattle.pcap_io.specs.Capture.{IsLinkType}
+use Rattle.mn_base.specs.Ranges.{IsLinkType}
 use Rattle.pcap_io.specs.Form.{half, word}
 use Rattle.pcap_io.specs.Reading.{HasMagic, HasHeader, seconds, captured, original, Splits}
 

@@ -3,7 +3,8 @@ use Rattle.std.specs.Prelude.{◌≡◌, ℕ, ◌+◌, ◌*◌, ◌^◌, ◌≤�
 use Rattle.mn_base.specs.declared.limits.TheConstants.{PACKETS_MAX, PACKET_BYTES_MAX, RECORD_SECONDS_MAX}
 use Rattle.pcap_io.specs.declared.form.Form.{Form}
 use Rattle.pcap_io.specs.declared.packet.Packet.{Packet}
-use Rattle.pcap_io.specs.Capture.{Capture, IsLinkType}
+use Rattle.mn_base.specs.Ranges.{IsLinkType}
+use Rattle.pcap_io.specs.Capture.{Capture}
 use Rattle.pcap_io.specs.Form.{magic, half, word, fraction_ns}
 
 -- the first four bytes name the form

@@ -1,6 +1,6 @@
-ghost use Rattle.std.specs.Prelude.{◌≡◌, ℕ, ◌+◌, ◌*◌, ◌^◌, ◌<◌, ◌≤◌, [], length, drop, All, IfOk, IfErr, IsTrue, ◌↔◌};
+ghost use Rattle.std.specs.Prelude.{◌≡◌, ℕ, ◌+◌, ◌*◌, ◌^◌, ◌<◌, ◌≤◌, [], length, drop, All, IfOk, IfErr};
 ghost use Rattle.mn_base.specs.Refused.{IfFault, Gives, Refuses};
-ghost use Rattle.pcap_io.specs.Capture.{Capture, IsLinkType, IsPacket, IsRecordTime};
+ghost use Rattle.pcap_io.specs.Capture.{Capture, IsPacket, IsRecordTime};
 ghost use Rattle.pcap_io.specs.Reading.{Splits, Pcap};
 ghost use Rattle.pcap_io.specs.Faults.{PcapFirst, HasRecordFault};
 ghost use Rattle.pcap_io.specs.Answers.{ReadsHeader, ReadsRecord};
@@ -11,7 +11,7 @@ use crate::form::{Form, Resolution};
 use crate::packet::Packet;
 use crate::trace::Trace;
 use mn_base::limits::{PACKET_BYTES_MAX, PACKETS_MAX, RECORD_SECONDS_MAX, TRACE_BYTES_MAX};
-use mn_base::{Bytes, Refusal};
+use mn_base::{Bytes, Refusal, is_link_type};
 use std::alloc::Global;
 
 /// The bytes of a file's header.
@@ -33,12 +33,6 @@ pub struct RecordHeader {
     pub time_ns: u64,
     pub captured: u32,
     pub original: u32,
-}
-
-fn is_link_type(link_type: u32) -> bool
-    ensures { IsTrue result ↔ IsLinkType link_type }
-{
-    matches!(link_type, 1 | 101 | 228)
 }
 
 fn read_header(text: &[u8]) -> Result<Header, PcapFault>
