@@ -20,7 +20,7 @@ pub enum ReadEnd {
 }
 
 /// How many bytes one read asks for.
-const PIECE: usize = 4096;
+const PIECE: usize = 65_536;
 
 /// Reads an active role to its end. More than `limit` bytes are refused.
 pub fn read_all<H: Host>(

@@ -9,7 +9,7 @@ use Rattle.mn_edge.specs.Part.{Part}
 use Rattle.pcap_io.specs.declared.fault.PcapFault.{PcapFault}
 use Rattle.pcap_io.specs.Capture.{Capture}
 use Rattle.pcap_io.specs.Reading.{Pcap}
-use Rattle.pcap_io.specs.Faults.{IsFirstFault}
+use Rattle.pcap_io.specs.Faults.{PcapFirst}
 use Rattle.pcap_io.proofs.OneReading.{no_fault, one_fault}
 use Rattle.modelnet.specs.declared.status.Status.{Status}
 use Rattle.modelnet.specs.declared.status.Status.TheVariants.{Done, NoMemory, BadWords, BadTrace, ReadFault, WriteFault, TooLarge}
@@ -76,14 +76,14 @@ good_text order out_text report text old new run told =
 
 -- an answer after the text was accepted
 pub after_text : (order : ChainView) (old new : Host) (answer : Status) (text : List ℕ) → ChainAnswers order old new answer → (old Trace).left ≡ Some text
-    → HasGoodText text ⊎ ((fault : PcapFault) × (answer ≡ BadTrace fault) × (length text ≤ trace_limit) × IsFirstFault text fault)
+    → HasGoodText text ⊎ ((fault : PcapFault) × (answer ≡ BadTrace fault) × (length text ≤ trace_limit) × PcapFirst text fault)
     ⊎ ((answer ≡ TooLarge Trace) × (trace_limit < length text)) ⊎ (answer ≡ NoMemory) ⊎ Rose (old Trace).faults (new Trace).faults
 after_text order old new Done text c told = inl (good_text order c.out_text c.report_text text old new c.run told)
 after_text order old new NoMemory text c told = inr (inr (inr (inl refl)))
 after_text order old new (BadWords fault) text c told = absurd c
 after_text order old new (BadTrace fault) text c told =
     let same = whole_text order.trace c.bytes text (old Trace) (new Trace) c.read told in
-    inr (inl (fault, refl, subst (λ bytes. length bytes ≤ trace_limit) same c.few, subst (λ bytes. IsFirstFault bytes fault) same c.first))
+    inr (inl (fault, refl, subst (λ bytes. length bytes ≤ trace_limit) same c.few, subst (λ bytes. PcapFirst bytes fault) same c.first))
 after_text order old new (ReadFault role) text c told = inr (inr (inr (inr c.1.rose)))
 after_text order old new (WriteFault Topology) text c told = absurd c
 after_text order old new (WriteFault Trace) text c told = absurd c
@@ -142,7 +142,7 @@ chain_completes order old new NoMemory text trace c told few says quiet = inr re
 chain_completes order old new (BadWords fault) text trace c told few says quiet = absurd c
 chain_completes order old new (BadTrace fault) text trace c told few says quiet =
     let same = whole_text order.trace c.bytes text (old Trace) (new Trace) c.read told in
-    absurd (no_fault text trace fault says (subst (λ bytes. IsFirstFault bytes fault) same c.first))
+    absurd (no_fault text trace fault says (subst (λ bytes. PcapFirst bytes fault) same c.first))
 chain_completes order old new (ReadFault role) text trace c told few says quiet = absurd (quiet Trace c.1.rose)
 chain_completes order old new (WriteFault Topology) text trace c told few says quiet = absurd c
 chain_completes order old new (WriteFault Trace) text trace c told few says quiet = absurd c

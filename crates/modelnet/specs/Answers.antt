@@ -5,7 +5,7 @@ use Rattle.mn_edge.specs.declared.role.Role.{Role}
 use Rattle.mn_edge.specs.declared.role.Role.TheVariants.{Trace, Out, Report}
 use Rattle.mn_edge.specs.Part.{Part}
 use Rattle.pcap_io.specs.declared.fault.PcapFault.{PcapFault}
-use Rattle.pcap_io.specs.Faults.{IsFirstFault}
+use Rattle.pcap_io.specs.Faults.{PcapFirst}
 use Rattle.modelnet.specs.declared.status.Status.{Status}
 use Rattle.modelnet.specs.declared.status.Status.TheVariants.{BadTrace, ReadFault, WriteFault, TooLarge}
 use Rattle.modelnet.specs.declared.status.Status.TheVariants as status
@@ -47,7 +47,7 @@ pub record IsBadTrace (order : ChainView) (fault : PcapFault) (old new : Host) :
   pub bytes : List ℕ
   pub few : length bytes ≤ trace_limit
   pub read : WasRead order.trace bytes (old Trace) (new Trace)
-  pub first : IsFirstFault bytes fault
+  pub first : PcapFirst bytes fault
   pub others : OnlyTrace old new
 
 -- a call on the trace failed, after so many bytes at most

@@ -6,7 +6,7 @@ use Rattle.mn_edge.specs.declared.role.Role.TheVariants.{Trace}
 use Rattle.pcap_io.specs.declared.fault.PcapFault.{PcapFault}
 use Rattle.pcap_io.specs.Capture.{Capture}
 use Rattle.pcap_io.specs.Reading.{Pcap}
-use Rattle.pcap_io.specs.Faults.{IsFirstFault}
+use Rattle.pcap_io.specs.Faults.{PcapFirst}
 use Rattle.modelnet.specs.declared.status.Status.{Status}
 use Rattle.modelnet.specs.declared.status.Status.TheVariants.{Done, NoMemory, BadWords, BadTrace, TooLarge}
 use Rattle.modelnet.specs.declared.words_fault.WordsFault.{WordsFault}
@@ -36,7 +36,7 @@ FindsTooLarge words old new answer = (text : List ℕ) → IsTold words text old
 -- a text with a fault is answered by its first fault
 abbrev pub FindsBadTrace : List (List ℕ) → Host → Host → Status → Type 0
 FindsBadTrace words old new answer =
-    (text : List ℕ) (fault : PcapFault) → IsTold words text old new → length text ≤ trace_limit → IsFirstFault text fault → IsOrNoMemory (BadTrace fault) answer
+    (text : List ℕ) (fault : PcapFault) → IsTold words text old new → length text ≤ trace_limit → PcapFirst text fault → IsOrNoMemory (BadTrace fault) answer
 
 -- where nothing is wrong with the words or the text, and no call of the host failed, all is done
 abbrev pub IsComplete : List (List ℕ) → Host → Host → Status → Type 0

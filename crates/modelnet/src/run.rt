@@ -2,7 +2,7 @@ ghost use Rattle.std.specs.Prelude.{◌≡◌, ◌≤◌, length, map, All, IfOk
 ghost use Rattle.mn_base.specs.Refused.{IfFault};
 ghost use Rattle.pcap_io.specs.Capture.{IsTrace, IsRecordTime};
 ghost use Rattle.pcap_io.specs.Writing.{pcap_text};
-ghost use Rattle.pcap_io.specs.Faults.{IsFirstFault};
+ghost use Rattle.pcap_io.specs.Faults.{PcapFirst};
 ghost use Rattle.modelnet.specs.Order.{IsOrder};
 ghost use Rattle.modelnet.specs.Run.{IsChainRun, SaysRun};
 
@@ -34,7 +34,7 @@ pub fn chain_texts(
     requires order { IsOrder order.now }
     requires few { length text.now ≤ 268435456 }
     ensures run { IfOk result (λ texts. SaysRun order.now text.now (pcap_text texts.out) texts.report) }
-    ensures fault { IfErr result (λ refusal. IfFault refusal (IsFirstFault text.now)) }
+    ensures fault { IfErr result (λ refusal. IfFault refusal (PcapFirst text.now)) }
 {
     let trace = read_pcap(alloc, text)?;
     // A read of the trace, so that the proof knows what its type keeps.
