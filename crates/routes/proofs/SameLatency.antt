@@ -5,7 +5,7 @@ use Rattle.std.proofs.lemmas.Bool.{cases_eq, cases_Bool, true≢false}
 use Rattle.mn_base.specs.Among.{Among}
 use Rattle.routes.specs.declared.graph.Arc.{Arc}
 use Rattle.routes.specs.Walk.{arc_at, IsWalk, weight_of}
-use Rattle.routes.specs.SameLatency.{IsLeastLatency, IsJoined, HaveSameLatency, IsInner, IsInnerWalk, HasArc, HasWalk, IsDistilledBy, IsEnd}
+use Rattle.routes.specs.SameLatency.{IsLeastLatency, IsJoined, HaveSameLatency, IsInner, IsInnerWalk, HasArc, HasWalk, IsDistilledBy, IsTerminal}
 
 -- ---- walks one after the other
 pub IsWalk-append : (arcs : List Arc) (a b c : ℕ) (es fs : List ℕ) → IsWalk arcs a b es → IsWalk arcs b c fs → IsWalk arcs a c (es ++ fs)
@@ -71,7 +71,7 @@ module _ (outer : ℕ → Bool) (border : List ℕ) (arcs pipes : List Arc) (by 
   -- pipes have led to c, and inner arcs lead on to x
   record IsAt (c x : ℕ) (ps : List ℕ) : Type 0 where
     walk : IsInnerWalk arcs outer c x ps
-    end : IsEnd outer border c
+    end : IsTerminal outer border c
 
   -- in place of the inner arcs one pipe of the mesh leads to x, where x is on the border
   across : (c x : ℕ) (ps : List ℕ) → IsAt c x ps → (outer x ≡ false → Among x border) → HasWalkUpTo pipes c x (weight_of arcs ps)
@@ -133,7 +133,7 @@ module _ (outer : ℕ → Bool) (border : List ℕ) (arcs pipes : List Arc) (by 
       ]
 
   -- along the rest of a walk of links pipes lead to its end, and weigh no more
-  along : (es : List ℕ) (c x b : ℕ) (ps : List ℕ) → IsAt c x ps → IsWalk arcs x b es → IsEnd outer border b
+  along : (es : List ℕ) (c x b : ℕ) (ps : List ℕ) → IsAt c x ps → IsWalk arcs x b es → IsTerminal outer border b
       → HasWalkUpTo pipes c b (weight_of arcs ps + weight_of arcs es)
   along [] c x b ps at walk end =
       let all = across c b ps (record { walk = subst (λ v. IsInnerWalk arcs outer c v ps) walk at.walk; end = at.end }) end in
@@ -168,7 +168,7 @@ module _ (outer : ℕ → Bool) (border : List ℕ) (arcs pipes : List Arc) (by 
             record { walk = all.walk; joins = all.joins; weight = (let w = all.weight in omega arith) }
       ]
 
-  there : (a b : ℕ) (es : List ℕ) → IsEnd outer border a → IsEnd outer border b → IsWalk arcs a b es
+  there : (a b : ℕ) (es : List ℕ) → IsTerminal outer border a → IsTerminal outer border b → IsWalk arcs a b es
       → HasWalkUpTo pipes a b (weight_of arcs es)
   there a b es start end walk =
       let all = along es a a b [] (record { walk = refl; end = start }) walk end in
@@ -200,7 +200,7 @@ module _ (outer : ℕ → Bool) (border : List ℕ) (arcs pipes : List Arc) (by 
             omega arith;
       }
 
-  module _ (a b : ℕ) (start : IsEnd outer border a) (end : IsEnd outer border b) where
+  module _ (a b : ℕ) (start : IsTerminal outer border a) (end : IsTerminal outer border b) where
     -- a least walk of links has a walk of pipes of its weight, and no walk of pipes is shorter
     of_links : (n : ℕ) → IsLeastLatency arcs a b n → IsLeastLatency pipes a b n
     of_links n own =

@@ -60,11 +60,11 @@ pub record IsDistilledBy (outer : ℕ → Bool) (border : List ℕ) (arcs pipes 
   pub enters : (e : ℕ) → e < length arcs → outer (arc_at arcs e).from ≡ true → outer (arc_at arcs e).to ≡ false
       → Among (arc_at arcs e).to border
 
--- a node that walks may begin or end at: outer, or on the border
-abbrev pub IsEnd : (ℕ → Bool) → List ℕ → ℕ → Type 0
-IsEnd outer border a = outer a ≡ false → Among a border
+-- a node at which walks of pipes may begin and end: outer, or on the border
+abbrev pub IsTerminal : (ℕ → Bool) → List ℕ → ℕ → Type 0
+IsTerminal outer border a = outer a ≡ false → Among a border
 
 -- pipes that distill a graph keep the least latency between any two ends
 abbrev pub DistillingKeepsLatency : Type 0
 DistillingKeepsLatency = (outer : ℕ → Bool) (border : List ℕ) (arcs pipes : List Arc) (a b : ℕ)
-    → IsDistilledBy outer border arcs pipes → IsEnd outer border a → IsEnd outer border b → HaveSameLatency arcs pipes a b
+    → IsDistilledBy outer border arcs pipes → IsTerminal outer border a → IsTerminal outer border b → HaveSameLatency arcs pipes a b
