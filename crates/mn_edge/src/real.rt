@@ -1,15 +1,17 @@
 // The real host. Which file or stream stands behind a role is trusted, since no contract can say what the system opens.
+ghost use Rattle.std.specs.Fs.{new_options, with_create, with_read, with_truncate, with_write};
 ghost use Rattle.std.specs.Prelude.{◌≡◌, ◌≢◌, ◌<◌, ◌≤◌, true, false, length, take, IfOk, MatchResult, OnErr};
 ghost use Rattle.std.specs.Io.KnownBytes.{IsAtEnd, ReadConsumes, WriteAppends};
 ghost use Rattle.mn_edge.specs.declared.role.Role.{Role};
 ghost use Rattle.mn_edge.specs.Part.{Fails, Begins, Takes, Adds, Finishes};
+ghost use Rattle.mn_edge.specs.Role.{is_input};
 ghost use Rattle.mn_edge.specs.RealHostView.{silent_part, file_of, file_bytes, bytes_ahead, bytes_taken, TouchesFile};
 ghost use Rattle.mn_edge.specs.RealRoleView.{unused_role, silent, faults_after};
 
 use crate::host::{Failed, Host};
 use crate::real_role::RealRole;
 use crate::role::Role;
-use std::fs::{File, Files};
+use std::fs::{File, Files, OpenOptions};
 use std::io::{Read, Write};
 use std::marker::Model;
 use std::rt::Stdout;
@@ -37,14 +39,29 @@ impl<R, F, S> Model for RealHost<R, F, S> {
     ghost view = { λ h. record { roles = h.roles; files = h.files; screen = h.screen } };
 }
 
-/// The file of a role: an input to be read, an output made and emptied, and none for Screen.
+/// How the file of a role is opened: an input to be read, an output to be written, made where it isn't there, and emptied.
+fn options_of(role: Role) -> OpenOptions
+    ensures input { is_input role ≡ true → result ≡ with_read new_options true }
+    ensures output { is_input role ≡ false
+        → result ≡ with_truncate (with_create (with_write new_options true) true) true }
+{
+    let mut options = OpenOptions::new();
+    if role.is_input() {
+        options.read(true);
+    } else {
+        options.write(true);
+        options.create(true);
+        options.truncate(true);
+    }
+    options
+}
+
+/// The file of a role, and none for Screen.
 fn open<R: Files>(rt: &R, role: Role, name: &str) -> io::Result<Option<R::File>> {
     if role == Role::Screen {
         Ok(None)
-    } else if role.is_input() {
-        Ok(Some(File::open(rt, name)?))
     } else {
-        Ok(Some(File::create(rt, name)?))
+        Ok(Some(options_of(role).open(rt, name)?))
     }
 }
 
