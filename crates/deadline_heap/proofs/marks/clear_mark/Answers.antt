@@ -1,0 +1,9 @@
+use Rattle.std.proofs.Common.{arith}
+use Rattle.deadline_heap.proofs.FirstBits.{bit_of-clear_same, bit_of-clear_other}
+use Rattle.deadline_heap.proofs.marks.clear_mark.Goals as goal
+
+pub returns-clause-here : goal.returns-clause-here
+returns-clause-here c = bit_of-clear_same c.args.words.now c.args.slot (omega arith)
+
+pub returns-clause-others : goal.returns-clause-others
+returns-clause-others c = bit_of-clear_other c.args.words.now c.args.slot (omega arith)
