@@ -1,9 +1,9 @@
 -- The visits of the wheel and of the ordered map as one list: its members, its order, and what an insertion and a removal in one part do to it.
-use Rattle.std.proofs.Common.{◌≡◌, ◌≢◌, ◌⊎◌, inl, inr, ⊎_elim, ℕ, ◌<◌, Bool, true, false, cond, List, [], ◌∷◌, ◌++◌, refl, sym, ap, ◌∙◌, subst, arith}
+use Rattle.std.proofs.Common.{◌≡◌, ◌⊎◌, inl, inr, ⊎_elim, ℕ, List, [], ◌∷◌, refl, sym, ap, ◌∙◌, subst}
 use Rattle.std.specs.Prelude.{◌↔◌}
 use Rattle.mn_base.specs.Among.{Among}
 use Rattle.deadline_heap.specs.declared.due.Due.{Due}
-use Rattle.deadline_heap.specs.Canonical.{IsEarlier, is_earlier, HasNoneOf, IsCanonical, placed}
+use Rattle.deadline_heap.specs.Canonical.{IsEarlier, HasNoneOf, IsCanonical, placed}
 use Rattle.deadline_heap.specs.HeapParts.{merged, AreApart}
 use Rattle.deadline_heap.proofs.Orders.{placed-first, placed-past, Among-placed, canonical-placed, same_members, earlier_once}
 
@@ -11,7 +11,8 @@ pub Among-merged : (other : Due) (near far : List Due) → Among other (merged n
 Among-merged other near [] = (λ a. inl a, λ a. ⊎_elim (λ there. there) (λ none. absurd none) a)
 Among-merged other near (x ∷ far) = go (Among-merged other near far)
   where
-    go : Among other (merged near far) ↔ (Among other near ⊎ Among other far) → Among other (merged near (x ∷ far)) ↔ (Among other near ⊎ ((x ≡ other) ⊎ Among other far))
+    go : Among other (merged near far) ↔ (Among other near ⊎ Among other far)
+        → Among other (merged near (x ∷ far)) ↔ (Among other near ⊎ ((x ≡ other) ⊎ Among other far))
     go rest = (into, out)
       where
         into : Among other (merged near (x ∷ far)) → Among other near ⊎ ((x ≡ other) ⊎ Among other far)
@@ -49,12 +50,14 @@ canonical-merged near (x ∷ far) parts =
   where
     fresh : HasNoneOf x.packet (merged near far)
     fresh other there =
-        ⊎_elim (λ in_near. parts.apart other x in_near (inl refl)) (λ in_far. parts.far_canonical.1 other in_far) ((Among-merged other near far).0 there)
+        ⊎_elim (λ in_near. parts.apart other x in_near (inl refl)) (λ in_far. parts.far_canonical.1 other in_far)
+        ((Among-merged other near far).0 there)
 
 -- ---- insertion
 
 -- a packet that neither part has keeps them apart, whichever part gets its visit
-pub apart-placed-near : (due : Due) (near far : List Due) → HasNoneOf due.packet near → HasNoneOf due.packet far → AreApart near far → AreApart (placed due near) far
+pub apart-placed-near : (due : Due) (near far : List Due) → HasNoneOf due.packet near → HasNoneOf due.packet far → AreApart near far
+    → AreApart (placed due near) far
 apart-placed-near due near far fresh_near fresh_far parts = record {
   near_canonical = canonical-placed due near fresh_near parts.near_canonical;
   far_canonical = parts.far_canonical;
@@ -65,7 +68,8 @@ apart-placed-near due near far fresh_near fresh_far parts = record {
       ((Among-placed a due near).0 in_near);
 }
 
-pub apart-placed-far : (due : Due) (near far : List Due) → HasNoneOf due.packet near → HasNoneOf due.packet far → AreApart near far → AreApart near (placed due far)
+pub apart-placed-far : (due : Due) (near far : List Due) → HasNoneOf due.packet near → HasNoneOf due.packet far → AreApart near far
+    → AreApart near (placed due far)
 apart-placed-far due near far fresh_near fresh_far parts = record {
   near_canonical = parts.near_canonical;
   far_canonical = canonical-placed due far fresh_far parts.far_canonical;
@@ -83,10 +87,12 @@ pub fresh_far : (packet : ℕ) (near far : List Due) → HasNoneOf packet (merge
 fresh_far packet near far fresh other there = fresh other ((Among-merged other near far).1 (inr there))
 
 -- a visit put into the wheel is put in its place in the one list
-pub merged-placed-near : (due : Due) (near far : List Due) → HasNoneOf due.packet (merged near far) → AreApart near far → merged (placed due near) far ≡ placed due (merged near far)
+pub merged-placed-near : (due : Due) (near far : List Due) → HasNoneOf due.packet (merged near far) → AreApart near far
+    → merged (placed due near) far ≡ placed due (merged near far)
 merged-placed-near due near far fresh parts =
     same_members (merged (placed due near) far) (placed due (merged near far))
-    (canonical-merged (placed due near) far (apart-placed-near due near far (fresh_near due.packet near far fresh) (fresh_far due.packet near far fresh) parts))
+    (canonical-merged (placed due near) far
+    (apart-placed-near due near far (fresh_near due.packet near far fresh) (fresh_far due.packet near far fresh) parts))
     (canonical-placed due (merged near far) fresh (canonical-merged near far parts))
     (λ z. (into z, out z))
   where
@@ -111,10 +117,12 @@ merged-placed-near due near far fresh parts =
         ((Among-placed z due (merged near far)).0 there)
 
 -- and so is one put into the map
-pub merged-placed-far : (due : Due) (near far : List Due) → HasNoneOf due.packet (merged near far) → AreApart near far → merged near (placed due far) ≡ placed due (merged near far)
+pub merged-placed-far : (due : Due) (near far : List Due) → HasNoneOf due.packet (merged near far) → AreApart near far
+    → merged near (placed due far) ≡ placed due (merged near far)
 merged-placed-far due near far fresh parts =
     same_members (merged near (placed due far)) (placed due (merged near far))
-    (canonical-merged near (placed due far) (apart-placed-far due near far (fresh_near due.packet near far fresh) (fresh_far due.packet near far fresh) parts))
+    (canonical-merged near (placed due far)
+    (apart-placed-far due near far (fresh_near due.packet near far fresh) (fresh_far due.packet near far fresh) parts))
     (canonical-placed due (merged near far) fresh (canonical-merged near far parts))
     (λ z. (into z, out z))
   where
@@ -141,7 +149,8 @@ merged-placed-far due near far fresh parts =
 -- ---- removal
 
 -- the wheel's first comes first where it is earlier than all of the map
-pub merged-near-first : (due : Due) (near far : List Due) → ((x : Due) → Among x far → IsEarlier due x) → merged (due ∷ near) far ≡ due ∷ merged near far
+pub merged-near-first : (due : Due) (near far : List Due) → ((x : Due) → Among x far → IsEarlier due x)
+    → merged (due ∷ near) far ≡ due ∷ merged near far
 merged-near-first due near [] leads = refl
 merged-near-first due near (x ∷ far) leads =
     ap (placed x) (merged-near-first due near far (λ y there. leads y (inr there)))
@@ -152,7 +161,8 @@ merged-near-first due near (x ∷ far) leads =
     behind y (inr none) earlier = none
 
 -- the map's first comes first where it is earlier than all of the wheel
-pub merged-far-first : (due : Due) (near far : List Due) → IsCanonical (due ∷ far) → ((x : Due) → Among x near → IsEarlier due x) → merged near (due ∷ far) ≡ due ∷ merged near far
+pub merged-far-first : (due : Due) (near far : List Due) → IsCanonical (due ∷ far) → ((x : Due) → Among x near → IsEarlier due x)
+    → merged near (due ∷ far) ≡ due ∷ merged near far
 merged-far-first due near far order leads =
     placed-first due (merged near far)
     (λ x there. ⊎_elim (λ in_near. leads x in_near) (λ in_far. order.0 x in_far) ((Among-merged x near far).0 there))

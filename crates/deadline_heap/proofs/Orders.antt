@@ -1,5 +1,5 @@
 -- The canonical order is total on visits of different packets, a visit is put in its place, and a list in order is known by its members.
-use Rattle.std.proofs.Common.{◌≡◌, ◌≢◌, ◌⊎◌, inl, inr, ⊎_elim, ℕ, ◌<◌, Bool, true, false, cond, List, [], ◌∷◌, ◌++◌, refl, sym, ap, ◌∙◌, subst, arith, true≢false}
+use Rattle.std.proofs.Common.{◌≡◌, ◌≢◌, ◌⊎◌, inl, inr, ⊎_elim, ◌<◌, Bool, true, false, cond, List, [], ◌∷◌, ◌++◌, refl, sym, ap, ◌∙◌, subst, arith, true≢false}
 use Rattle.std.specs.Prelude.{◌↔◌, nat_lt, ◌==◌, ◌&&◌}
 use Rattle.std.proofs.lemmas.Bool.{or_cases, or_left, or_right, and_parts, and_from, ltb-true, lt-ltb, eqb-true, eq-eqb, cases_order}
 use Rattle.mn_base.specs.Among.{Among}
@@ -49,7 +49,8 @@ earlier_once x y (inr a) (inr b) = omega arith
 pub earlier_total : (x y : Due) → y.packet ≢ x.packet → (IsEarlier x y → ⊥) → IsEarlier y x
 earlier_total x y differ not_so = go (cases_order x.tick y.tick) (cases_order x.packet y.packet)
   where
-    go : (x.tick ≡ y.tick) ⊎ ((x.tick < y.tick) ⊎ (y.tick < x.tick)) → (x.packet ≡ y.packet) ⊎ ((x.packet < y.packet) ⊎ (y.packet < x.packet)) → IsEarlier y x
+    go : (x.tick ≡ y.tick) ⊎ ((x.tick < y.tick) ⊎ (y.tick < x.tick))
+        → (x.packet ≡ y.packet) ⊎ ((x.packet < y.packet) ⊎ (y.packet < x.packet)) → IsEarlier y x
     go (inl tie) (inl same) = absurd (differ (sym same))
     go (inl tie) (inr (inl lower)) = absurd (not_so (inr (tie, lower)))
     go (inl tie) (inr (inr above)) = inr (sym tie, above)
@@ -64,7 +65,8 @@ placed-first due [] leads = refl
 placed-first due (x ∷ xs) leads = ap (λ (b : Bool). cond b (due ∷ x ∷ xs) (x ∷ placed due xs)) (is_earlier-from due x (leads x (inl refl)))
 
 -- it is put behind a front that it isn't earlier than
-pub placed-past : (due : Due) (front rest : List Due) → ((x : Due) → Among x front → IsEarlier due x → ⊥) → placed due (front ++ rest) ≡ front ++ placed due rest
+pub placed-past : (due : Due) (front rest : List Due) → ((x : Due) → Among x front → IsEarlier due x → ⊥)
+    → placed due (front ++ rest) ≡ front ++ placed due rest
 placed-past due [] rest behind = refl
 placed-past due (x ∷ front) rest behind =
     ap (λ (b : Bool). cond b (due ∷ x ∷ front ++ rest) (x ∷ placed due (front ++ rest))) (not_earlier due x (behind x (inl refl)))

@@ -1,5 +1,5 @@
 -- What contracts see of the wheel: its base, and its visits in canonical order.
-use Rattle.std.specs.Prelude.{◌≡◌, ◌↔◌, ℕ, zero, suc, ◌+◌, ◌^◌, ◌<◌, ◌≤◌, ◌%◌, List, [], ◌∷◌, ◌++◌, length, map, slice_index_or}
+use Rattle.std.specs.Prelude.{◌≡◌, ℕ, zero, suc, ◌+◌, ◌^◌, ◌<◌, ◌≤◌, ◌%◌, List, [], ◌++◌, length, map, slice_index_or}
 use Rattle.mn_base.specs.Among.{Among}
 use Rattle.deadline_heap.specs.declared.due.Due.{Due}
 use Rattle.deadline_heap.specs.declared.wheel.TheConstants.{SLOTS}

@@ -13,3 +13,6 @@ mod wheel;
 
 pub use due::Due;
 pub use heap::Heap;
+
+#[cfg(test)]
+mod tests;

@@ -1,9 +1,8 @@
-use Rattle.std.proofs.Common.{◌≡◌, sym, ap, ◌∙◌, subst, List, Option, Some, None, ◌≤◌}
+use Rattle.std.proofs.Common.{sym, ap, ◌∙◌, subst, List, ◌≤◌}
 use Rattle.std.specs.Prelude.{slice_get, option_map}
 use Rattle.mn_base.specs.Among.{Among}
 use Rattle.deadline_heap.specs.declared.due.Due.{Due}
 use Rattle.deadline_heap.specs.Canonical.{IsCanonical}
-use Rattle.deadline_heap.specs.HeapParts.{Leads}
 use Rattle.deadline_heap.proofs.Merging.{canonical-merged}
 use Rattle.deadline_heap.proofs.Leads.{lead_is_least, first-merged, none-merged, leads_at}
 use Rattle.deadline_heap.proofs.heap.Heap.least.Goals as goal
@@ -12,10 +11,12 @@ pub returns-in_err-lead-clause-first : goal.returns-in_err-lead-clause-first
 returns-in_err-lead-clause-first c =
     c.from_residual.ensures
     ∙ ap (λ (l : List Due). option_map (λ due. due.tick) (slice_get l 0))
-    (sym (none-merged c.self.inside.wheel.visits c.self.inside.later (sym c.first.ensures ∙ c.in_err-lead.ensures.0) (sym c.first-2.ensures ∙ c.in_err-lead.ensures.1)) ∙ c.self.view_is)
+    (sym (none-merged c.self.inside.wheel.visits c.self.inside.later (sym c.first.ensures ∙ c.in_err-lead.ensures.0)
+    (sym c.first-2.ensures ∙ c.in_err-lead.ensures.1)) ∙ c.self.view_is)
 
 pub returns-in_err-lead-clause-canonical : goal.returns-in_err-lead-clause-canonical
-returns-in_err-lead-clause-canonical c = subst IsCanonical c.self.view_is (canonical-merged c.self.inside.wheel.visits c.self.inside.later c.self.invariant)
+returns-in_err-lead-clause-canonical c = subst IsCanonical c.self.view_is
+    (canonical-merged c.self.inside.wheel.visits c.self.inside.later c.self.invariant)
 
 pub returns-clause-first : goal.returns-clause-first
 returns-clause-first c =
@@ -31,4 +32,5 @@ returns-clause-least c =
     (leads_at _ _ c.self.inside.wheel.visits c.self.inside.later _ _ c.first.ensures c.first-2.ensures c.in_ok-lead.ensures))
 
 pub returns-clause-canonical : goal.returns-clause-canonical
-returns-clause-canonical c = subst IsCanonical c.self.view_is (canonical-merged c.self.inside.wheel.visits c.self.inside.later c.self.invariant)
+returns-clause-canonical c = subst IsCanonical c.self.view_is
+    (canonical-merged c.self.inside.wheel.visits c.self.inside.later c.self.invariant)

@@ -1,5 +1,4 @@
-use Rattle.std.proofs.Common.{◌≡◌, sym, ap, ◌∙◌, subst, ◌<◌, ℕ, List, ◌+◌, ◌%◌, length, arith, rules}
-use Rattle.deadline_heap.specs.declared.due.Due.{Due}
+use Rattle.std.proofs.Common.{sym, ap, ◌∙◌, subst, rules}
 use Rattle.deadline_heap.specs.Canonical.{HasNoneOf, placed}
 use Rattle.deadline_heap.specs.Entries.{HasNoEntry, entered}
 use Rattle.deadline_heap.specs.WheelView.{WheelView, IsAhead}
@@ -15,10 +14,12 @@ put-requires c =
 
 pub invariant_of-self-2 : goal.invariant_of-self-2
 invariant_of-self-2 c =
-    IsWheel-inserted c.self.inside.slots.items c.self.inside.marks c.set_mark.new.words c.self.inside.base c.args.due c.put.new.self c.self.invariant
+    IsWheel-inserted c.self.inside.slots.items c.self.inside.marks c.set_mark.new.words c.self.inside.base c.args.due c.put.new.self
+    c.self.invariant
     (subst (λ (v : WheelView). IsAhead v.base c.args.due.tick) (sym c.self.view_is) c.requires.ahead)
     (search rules)
-    (c.in_ok-put.ensures.ok ∙ ap (entered (c.args.due.packet, c.args.due.hop)) (c.index_mut.ensures.value ∙ slot_at _ _ _ c.self.invariant.count))
+    (c.in_ok-put.ensures.ok ∙ ap (entered (c.args.due.packet, c.args.due.hop))
+    (c.index_mut.ensures.value ∙ slot_at _ _ _ c.self.invariant.count))
     c.set_mark.ensures.here
     c.set_mark.ensures.others
 
@@ -26,5 +27,6 @@ pub returns-clause-ok : goal.returns-clause-ok
 returns-clause-ok c =
     visits_from-inserted c.self.inside.slots.items c.self.inside.base c.args.due c.put.new.self c.self.invariant.count
     (subst (λ (v : WheelView). IsAhead v.base c.args.due.tick) (sym c.self.view_is) c.requires.ahead)
-    (c.in_ok-put.ensures.ok ∙ ap (entered (c.args.due.packet, c.args.due.hop)) (c.index_mut.ensures.value ∙ slot_at _ _ _ c.self.invariant.count))
+    (c.in_ok-put.ensures.ok ∙ ap (entered (c.args.due.packet, c.args.due.hop))
+    (c.index_mut.ensures.value ∙ slot_at _ _ _ c.self.invariant.count))
     ∙ ap (λ (v : WheelView). placed c.args.due v.visits) c.self.view_is

@@ -1,6 +1,5 @@
-use Rattle.std.proofs.Common.{sym, ap, ◌∙◌, ◌<◌, ℕ, List, ◌+◌, ◌%◌, length, arith, cond, Bool, length-set}
+use Rattle.std.proofs.Common.{sym, ap, ◌∙◌, ℕ, List, ◌+◌, ◌%◌, length, arith, cond, Bool, length-set}
 use Rattle.std.specs.Prelude.{◌==◌}
-use Rattle.std.proofs.lemmas.List.{get_or-set_same}
 use Rattle.deadline_heap.specs.declared.wheel.TheConstants.{SLOTS}
 use Rattle.deadline_heap.specs.Bits.{bit_of}
 use Rattle.deadline_heap.specs.WheelView.{WheelView}
@@ -15,19 +14,26 @@ returns-in_err-ahead c =
     ∙ no_visit c.self.inside.slots.items c.self.inside.marks c.self.inside.base c.self.invariant c.in_err-ahead.ensures)
 
 pub overflow_add-tick : goal.overflow_add-tick
-overflow_add-tick c = omega (arith, tick_fits c.self.inside.slots.items c.self.inside.marks c.self.inside.base c.in_ok-ahead.ahead c.self.invariant c.in_ok-ahead.ensures)
+overflow_add-tick c = omega (
+  arith,
+  tick_fits c.self.inside.slots.items c.self.inside.marks c.self.inside.base c.in_ok-ahead.ahead
+      c.self.invariant c.in_ok-ahead.ensures,
+)
 
 pub invariant_of-self-2 : goal.invariant_of-self-2
 invariant_of-self-2 c =
-    IsWheel-popped c.self.inside.slots.items c.self.inside.marks c.unmark.new.words c.self.inside.base c.in_ok-ahead.ahead (c.in_ok-packet.packet, c.in_ok-packet.hop) c.pop.new.self c.self.invariant c.in_ok-ahead.ensures
+    IsWheel-popped c.self.inside.slots.items c.self.inside.marks c.unmark.new.words c.self.inside.base c.in_ok-ahead.ahead
+    (c.in_ok-packet.packet, c.in_ok-packet.hop) c.pop.new.self c.self.invariant c.in_ok-ahead.ensures
     (sym (c.index_mut.ensures.value ∙ slot_at _ _ _ c.self.invariant.count) ∙ c.in_ok-packet.ensures)
     (c.unmark.ensures.here
     ∙ ap (λ (b : Bool). cond b 0 (bit_of c.self.inside.marks ((c.self.inside.base + c.in_ok-ahead.ahead) % SLOTS)))
-    (c.is_empty-is_empty.ensures ∙ ap (λ (es : List (ℕ × ℕ)). length es == 0) (c.index.ensures ∙ slot_at _ _ _ (length-set _ _ _ ∙ c.self.invariant.count) ∙ slot_of-set_same _ _ _ c.self.invariant.count)))
+    (c.is_empty-is_empty.ensures ∙ ap (λ (es : List (ℕ × ℕ)). length es == 0)
+    (c.index.ensures ∙ slot_at _ _ _ (length-set _ _ _ ∙ c.self.invariant.count) ∙ slot_of-set_same _ _ _ c.self.invariant.count)))
     c.unmark.ensures.others
 
 pub returns : goal.returns
 returns c =
     sym (ap (λ (v : WheelView). v.visits) c.self.view_is)
-    ∙ visits_from-popped c.self.inside.slots.items c.self.inside.marks c.self.inside.base c.in_ok-ahead.ahead (c.in_ok-packet.packet, c.in_ok-packet.hop) c.pop.new.self c.self.invariant c.in_ok-ahead.ensures
+    ∙ visits_from-popped c.self.inside.slots.items c.self.inside.marks c.self.inside.base c.in_ok-ahead.ahead
+    (c.in_ok-packet.packet, c.in_ok-packet.hop) c.pop.new.self c.self.invariant c.in_ok-ahead.ensures
     (sym (c.index_mut.ensures.value ∙ slot_at _ _ _ c.self.invariant.count) ∙ c.in_ok-packet.ensures)

@@ -1,4 +1,4 @@
-use Rattle.std.proofs.Common.{sym, ap, ◌∙◌, subst, arith, ◌<◌, ◌≤◌}
+use Rattle.std.proofs.Common.{sym, ap, ◌∙◌, subst, arith}
 use Rattle.mn_base.specs.Among.{Among}
 use Rattle.deadline_heap.specs.WheelView.{WheelView}
 use Rattle.deadline_heap.proofs.Ring.{rises, rises_to}
