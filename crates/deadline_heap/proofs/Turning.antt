@@ -93,9 +93,10 @@ IsWheel-popped slots words after base ahead entry rest inside first here bit oth
     left_over [] now clear = refl
     left_over (e ∷ es) now clear =
         let some : length (e ∷ es) ≡ 0 → ⊥ = λ none. omega (arith, none) in
-        let kept = ap (λ (b : Bool). if b then 0 else bit_of words (tick % SLOTS)) (ne_eqb (length (e ∷ es)) 0 some) in
-        let one : 0 ≡ 1 = sym clear ∙ now ∙ kept ∙ first.set_here in
-        cc
+        let kept : (if (length (e ∷ es) == 0) then 0 else bit_of words (tick % SLOTS)) ≡ bit_of words (tick % SLOTS) =
+        ap (λ (b : Bool). if b then 0 else bit_of words (tick % SLOTS)) (ne_eqb (length (e ∷ es)) 0 some) in
+        let wrong : 0 ≡ 1 = sym clear ∙ now ∙ kept ∙ first.set_here in
+        absurd (omega (arith, wrong))
 
     none_left : (es : List (ℕ × ℕ)) → bit_of after (tick % SLOTS) ≡ (if (length es == 0) then 0 else bit_of words (tick % SLOTS))
         → bit_of after (tick % SLOTS) ≡ 1 → 0 < length es

@@ -15,9 +15,12 @@ fn due(tick: u64, packet: u32) -> Due
     }
 }
 
+fn may_move_to_a_thread<T: Send>(_value: &T) {}
+
 #[test]
 fn ties_go_by_packet_and_a_limit_is_left_out(rt: HostRuntime) -> Result<(), Fail> {
     let mut heap = Heap::new(rt.alloc())?;
+    may_move_to_a_thread(&heap);
     assert_eq!(rt; heap.least(), None);
     assert_eq!(rt; heap.pop_before(u64::MAX), None);
     heap.insert(due(60, 1))?;
