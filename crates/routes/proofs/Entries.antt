@@ -1,21 +1,22 @@
 -- The order of the queue's entries: it tells all entries apart, and goes by weight and number of arcs first.
-use Rattle.std.proofs.Common.{◌≡◌, ◌≢◌, ◌↔◌, ℕ, ◌<◌, ◌⊎◌, inl, inr, Bool, true, false, cond, List, [], ◌∷◌, Option, Some, None, IfSome, Ordering, refl, sym, ap, subst, ◌∙◌, arith}
+use Rattle.std.proofs.Common.{◌≡◌, ◌≢◌, ◌↔◌, ℕ, ◌<◌, ◌⊎◌, inl, inr, Bool, true, false, cond, List, ◌∷◌, Option, Some, None, IfSome, Ordering, refl, sym, ap, subst, ◌∙◌, arith}
 use Rattle.std.specs.declared.cmp.Ordering.TheVariants.{Less, Equal, Greater}
 use Rattle.std.specs.List.{All, list_any}
 use Rattle.std.specs.Cmp.{IsTotalOrder}
 use Rattle.std.specs.Ordering.{nat_cmp, ordering_then, is_eq}
 use Rattle.std.specs.BTreeMap.{is_at}
-use Rattle.std.proofs.lemmas.Bool.{or_cases, or_left, or_right, cases_Bool, cond-true, cond-false, false≢true, true≢false}
+use Rattle.std.proofs.lemmas.Bool.{cases_Bool, cond-true, cond-false, false≢true, true≢false}
 use Rattle.std.proofs.lemmas.Cmp.{ranked, tied_itself, nat_cmp_total, on_total, then_total}
-use Rattle.std.proofs.lemmas.List.Elements.{All-head, All-tail}
 use Rattle.std.proofs.lemmas.Map.Lookups.{exact_unsigned}
 use Rattle.mn_base.specs.Among.{Among}
+use Rattle.mn_base.proofs.Members.{All-Among, Among-from-list_any, list_any-true}
 use Rattle.routes.specs.NodeQueue.{Entry, IsUpTo}
 
 -- by weight, then by number of arcs, then by node
 abbrev pub entry_cmp : Entry → Entry → Ordering
 entry_cmp j k = ordering_then (ordering_then (nat_cmp j.0 k.0) (nat_cmp j.1 k.1)) (nat_cmp j.2 k.2)
 
+-- it is a total order, as each of its parts is
 entry_total : IsTotalOrder entry_cmp
 entry_total =
     then_total
@@ -28,16 +29,19 @@ both_equal Less p tie = cc
 both_equal Equal p tie = (refl, tie)
 both_equal Greater p tie = cc
 
+-- the first that isn't equal decides
 one_less : (o p : Ordering) → ordering_then o p ≡ Less → (o ≡ Less) ⊎ ((o ≡ Equal) × (p ≡ Less))
 one_less Less p less = inl refl
 one_less Equal p less = inr (refl, less)
 one_less Greater p less = cc
 
+-- the test for equal
 is_equal : (o : Ordering) → is_eq o ≡ true → o ≡ Equal
 is_equal Less passes = absurd (false≢true passes)
 is_equal Equal passes = refl
 is_equal Greater passes = absurd (false≢true passes)
 
+-- numbers by their comparison
 number_less : (m n : ℕ) → nat_cmp m n ≡ Less → m < n
 number_less m n less = ranked m n Less (sym less)
 
@@ -51,12 +55,15 @@ exact j k tie =
     let third = exact_unsigned j.2 k.2 outer.1 in
     ap (λ n. (n, j.1, j.2)) first ∙ ap (λ n. (k.0, n, j.2)) second ∙ ap (λ n. (k.0, k.1, n)) third
 
+-- an entry is equal to itself
 itself : (k : Entry) → entry_cmp k k ≡ Equal
 itself k = tied_itself entry_total k
 
+-- and not above itself
 pub up_to_itself : (k : Entry) → IsUpTo k k
 up_to_itself k = inr (refl, omega arith)
 
+-- what is less goes by weight and number of arcs first
 up_to_less : (j k : Entry) → entry_cmp j k ≡ Less → IsUpTo j k
 up_to_less j k less =
     elim (one_less (ordering_then (nat_cmp j.0 k.0) (nat_cmp j.1 k.1)) (nat_cmp j.2 k.2) less) [
@@ -73,6 +80,7 @@ up_to_less j k less =
           inr (exact_unsigned j.0 k.0 both.0, omega arith)
     ]
 
+-- what is less is another entry
 less_apart : (j k : Entry) → entry_cmp j k ≡ Less → k ≢ j
 less_apart j k less same =
     let here : entry_cmp j j ≡ Less = subst (λ (e : Entry). entry_cmp j e ≡ Less) same less in
@@ -80,37 +88,18 @@ less_apart j k less same =
     let never : Equal ≡ Less = sym tie ∙ here in
     cc
 
-at_member : (P : Entry → Type 0) (ks : List Entry) (k : Entry) → All P ks → Among k ks → P k
-at_member P [] k all there = absurd there
-at_member P (x ∷ xs) k all there =
-    elim there [
-      | inl here ↦ subst P here (All-head P x xs all)
-      | inr later ↦ at_member P xs k (All-tail P x xs all) later
-    ]
-
--- a set contains what stands among its keys
+-- a set contains an entry if and only if the entry stands among its keys
 contains_among : (k : Entry) (ks : List Entry) → list_any (is_at (entry_cmp k)) ks ≡ true → Among k ks
-contains_among k [] passes = absurd (false≢true passes)
-contains_among k (x ∷ xs) passes =
-    elim (or_cases (is_at (entry_cmp k) x) (list_any (is_at (entry_cmp k)) xs) passes) [
-      | inl here ↦ inl (sym (exact k x (is_equal (entry_cmp k x) here)))
-      | inr later ↦ inr (contains_among k xs later)
-    ]
+contains_among k ks passes =
+    let found = Among-from-list_any (is_at (entry_cmp k)) ks passes in
+    subst (λ (e : Entry). Among e ks) (sym (exact k found.0 (is_equal (entry_cmp k found.0) found.2))) found.1
 
+-- the test for an entry passes at the entry
 at_itself : (k : Entry) → is_at (entry_cmp k) k ≡ true
 at_itself k = ap is_eq (itself k)
 
 among_contains : (k : Entry) (ks : List Entry) → Among k ks → list_any (is_at (entry_cmp k)) ks ≡ true
-among_contains k [] there = absurd there
-among_contains k (x ∷ xs) there =
-    elim there [
-      | inl here ↦
-          or_left
-          (is_at (entry_cmp k) x)
-          (list_any (is_at (entry_cmp k)) xs)
-          (subst (λ (e : Entry). is_at (entry_cmp k) e ≡ true) (sym here) (at_itself k))
-      | inr later ↦ or_right (is_at (entry_cmp k) x) (list_any (is_at (entry_cmp k)) xs) (among_contains k xs later)
-    ]
+among_contains k ks there = list_any-true (is_at (entry_cmp k)) k ks there (at_itself k)
 
 -- ---- what the set's clauses say by members
 module _ (old new : List Entry) (entry : Entry) where
@@ -118,6 +107,7 @@ module _ (old new : List Entry) (entry : Entry) where
   hit : (k : Entry) → entry ≡ k → is_at (entry_cmp entry) k ≡ true
   hit k same = subst (λ (e : Entry). is_at (entry_cmp entry) e ≡ true) same (at_itself entry)
 
+  -- and nowhere else
   was_hit : (k : Entry) → is_at (entry_cmp entry) k ≡ true → entry ≡ k
   was_hit k passes = exact entry k (is_equal (entry_cmp entry k) passes)
 
@@ -180,11 +170,12 @@ module _ (old new : List Entry) (entry : Entry) where
       had : Bool
       had = list_any (is_at (entry_cmp k)) old
 
+  -- after the first is taken, those behind it are left, since each is greater
   pub among_popped : old ≡ entry ∷ new → All (λ k. entry_cmp entry k ≡ Less) new → (k : Entry) → Among k new ↔ (Among k old × (k ≢ entry))
   among_popped removal above k = (
     λ later. (
       subst (λ ks. Among k ks) (sym removal) (inr later),
-      less_apart entry k (at_member (λ q. entry_cmp entry q ≡ Less) new k above later),
+      less_apart entry k (All-Among (λ q. entry_cmp entry q ≡ Less) k new above later),
     ),
     λ both.
         elim (subst (λ ks. Among k ks) removal both.0) [
@@ -193,11 +184,12 @@ module _ (old new : List Entry) (entry : Entry) where
         ],
   )
 
+  -- and the first was least
   pub least_popped : old ≡ entry ∷ new → All (λ k. entry_cmp entry k ≡ Less) new → (k : Entry) → Among k old → IsUpTo entry k
   least_popped removal above k there =
       elim (subst (λ ks. Among k ks) removal there) [
         | inl here ↦ subst (λ (e : Entry). IsUpTo entry e) here (up_to_itself entry)
-        | inr later ↦ up_to_less entry k (at_member (λ q. entry_cmp entry q ≡ Less) new k above later)
+        | inr later ↦ up_to_less entry k (All-Among (λ q. entry_cmp entry q ≡ Less) k new above later)
       ]
 
 -- the same for what a pop answers
@@ -207,6 +199,7 @@ module _ (old new : List Entry) where
   rest_of_pop None removal above = tt
   rest_of_pop (Some first) removal above = among_popped old new first removal above
 
+  -- and that it was least
   pub least_of_pop : (r : Option Entry) → IfSome r (λ first. old ≡ first ∷ new)
       → IfSome r (λ first. All (λ k. entry_cmp first k ≡ Less) new)
       → IfSome r (λ first. (k : Entry) → Among k old → IsUpTo first k)

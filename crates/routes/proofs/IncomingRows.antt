@@ -1,5 +1,5 @@
 -- The rows of arcs by the node that they lead to, filled arc by arc.
-use Rattle.std.proofs.Common.{◌≡◌, ℕ, suc, zero, ◌+◌, ◌<◌, inl, inr, List, [], ◌∷◌, ◌++◌, length, get_or, set, map, Vec, Global, refl, sym, ap, subst, ◌∙◌, arith, length-set}
+use Rattle.std.proofs.Common.{◌≡◌, ℕ, suc, zero, ◌+◌, ◌<◌, inl, inr, List, [], ◌∷◌, ◌++◌, length, get_or, set, Vec, Global, refl, sym, ap, subst, ◌∙◌, arith, length-set}
 use Rattle.std.specs.List.{All}
 use Rattle.std.proofs.lemmas.Bool.{cases_eq}
 use Rattle.std.proofs.lemmas.List.{get_or-set_same, get_or-set_other, get_or-map, map-set}
@@ -22,15 +22,18 @@ pub record HasFirst (g : GraphView) (n : ℕ) (rows : List (List ℕ)) : Type 0 
   pub len : length rows ≡ g.nodes
   pub rows_are : (u : ℕ) → u < g.nodes → IsIntoBefore g.arcs n u (get_or rows u [])
 
+-- where all rows are empty, each is
 empty_at : (rows : List (Vec ℕ Global)) → All (λ (row : Vec ℕ Global). row.items ≡ []) rows → (u : ℕ) → get_or (lists_of rows) u [] ≡ []
 empty_at [] all u = refl
 empty_at (r ∷ rs) all zero = All-head (λ (row : Vec ℕ Global). row.items ≡ []) r rs all
 empty_at (r ∷ rs) all (suc u) = empty_at rs (All-tail (λ (row : Vec ℕ Global). row.items ≡ []) r rs all) u
 
+-- as many lists as vectors
 length-lists_of : (rows : List (Vec ℕ Global)) → length (lists_of rows) ≡ length rows
 length-lists_of [] = refl
 length-lists_of (r ∷ rs) = ap suc (length-lists_of rs)
 
+-- at the start no arc has its place
 pub none_yet : (g : GraphView) (rows : List (Vec ℕ Global)) → length rows ≡ g.nodes → All (λ (row : Vec ℕ Global). row.items ≡ []) rows
     → HasFirst g 0 (lists_of rows)
 none_yet g rows len all =
@@ -113,6 +116,7 @@ one_more g n rows rows' on low is =
           to = was.to;
         }
 
+-- at the end each has
 pub all_rows : (g : GraphView) (n : ℕ) (rows : List (List ℕ)) → HasFirst g n rows → n ≡ length g.arcs → IsIncoming g rows
 all_rows g n rows on done =
     record {

@@ -1,5 +1,6 @@
 pub mod Entries
 pub mod IncomingRows
+pub mod LabelOrder
 pub mod Lists
 pub mod NoNodeTwice
 pub mod Offering

@@ -99,6 +99,7 @@ module _ (arcs : List Arc) (b : ℕ) where
   not_back : (a e : ℕ) (es : List ℕ) → IsLeastWalk arcs a b (e ∷ es) → Among a (nodes_of arcs (arc_at arcs e).to es) → ⊥
   not_back a e es own met = no_shorter a e es own (rest_from a (arc_at arcs e).to es own.walk.2 met)
 
+  -- no rest of a least walk comes back to its start, so all its nodes differ
   distinct_nodes : (a : ℕ) (es : List ℕ) → IsLeastWalk arcs a b es → IsDistinct eqb (nodes_of arcs a es)
   unfolding IsDistinct
   distinct_nodes a [] own = IsDistinct-cons eqb a [] tt tt
@@ -110,6 +111,7 @@ module _ (arcs : List Arc) (b : ℕ) where
       (apart a (nodes_of arcs (arc_at arcs e).to es) (not_back a e es own))
       (distinct_nodes (arc_at arcs e).to es (rest_least a e es own))
 
+  -- an arc that came again would bring its start again
   distinct_arcs : (a : ℕ) (es : List ℕ) → IsLeastWalk arcs a b es → IsDistinct eqb es
   unfolding IsDistinct
   distinct_arcs a [] own = tt
@@ -130,6 +132,7 @@ module _ (arcs : List Arc) (b : ℕ) where
   pub no_node_twice : (a : ℕ) (es : List ℕ) → IsLeastWalk arcs a b es → AllPairs (λ v w. v ≢ w) (nodes_of arcs a es)
   no_node_twice a es own = AllPairs-from_IsDistinct Decides-eqb (nodes_of arcs a es) (distinct_nodes a es own)
 
+  -- and of arcs
   pub no_arc_twice : (a : ℕ) (es : List ℕ) → IsLeastWalk arcs a b es → AllPairs (λ e f. e ≢ f) es
   no_arc_twice a es own = AllPairs-from_IsDistinct Decides-eqb es (distinct_arcs a es own)
 
@@ -152,6 +155,7 @@ module _ (arcs : List Arc) (b : ℕ) where
   length-nodes_of a [] = refl
   length-nodes_of a (e ∷ es) = ap suc (length-nodes_of (arc_at arcs e).to es)
 
+  -- so many different nodes there are, and a walk meets one more than it has arcs
   pub short : (nodes : ℕ) (a : ℕ) (es : List ℕ) → All (IsArcAmong nodes) arcs → a < nodes → IsLeastWalk arcs a b es → length es < nodes
   short nodes a es all low own =
       let most = length-le_from_distinct_below (nodes_of arcs a es) nodes (distinct_nodes a es own) (within nodes all a es low own.walk) in

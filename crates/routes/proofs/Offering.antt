@@ -1,16 +1,17 @@
 -- A label is offered to a node: it is refused, or taken with a new entry in the queue.
-use Rattle.std.proofs.Common.{◌≡◌, ◌≢◌, ◌↔◌, ℕ, ◌<◌, ◌⊎◌, inl, inr, Bool, false, List, ◌∷◌, length, set, Option, Some, None, Result, Ok, Err, OnOk, get_or, Vec, Global, refl, sym, ap, subst, ◌∙◌, arith, length-set}
+use Rattle.std.proofs.Common.{◌≡◌, ◌≢◌, ◌↔◌, ℕ, ◌<◌, ◌⊎◌, inl, inr, Bool, false, List, ◌∷◌, length, set, Option, Some, None, Result, Ok, Err, OnOk, get_or, Vec, Global, sym, ap, subst, ◌∙◌, arith, length-set}
 use Rattle.mn_base.specs.Among.{Among}
 use Rattle.routes.specs.declared.label.Label.{Label}
 use Rattle.routes.specs.declared.search.Search.{Search}
 use Rattle.routes.specs.GraphView.{GraphView}
 use Rattle.routes.specs.NodeQueue.{Entry}
 use Rattle.routes.specs.Walk.{arc_at}
-use Rattle.routes.specs.Table.{label_of, offer_of, IsNoWorse, HasNoWorse}
+use Rattle.routes.specs.Table.{label_of, offer_of, IsNoWorse}
 use Rattle.routes.specs.Search.{settled_of, settled_count, entry_of, IsNodeQueue, IsSearch}
 use Rattle.routes.specs.Searching.{IsSearching, Puts, KeepsLabel, TakesLabel, Offers}
 use Rattle.routes.proofs.Lists.{settled_read, put_label}
-use Rattle.routes.proofs.SearchSteps.{IsPut, one_label, no_worse_otherwise, kept, kept_settled, bettered}
+use Rattle.routes.proofs.LabelOrder.{no_worse_otherwise}
+use Rattle.routes.proofs.SearchSteps.{IsPut, one_label, kept, kept_settled, bettered}
 use Rattle.routes.proofs.QueueSteps.{queue_moved, no_entry, one_entry}
 
 -- the node v isn't settled
@@ -51,13 +52,7 @@ takes {s} {s'} {v} {c} on moves better =
           (λ (bs : Vec Bool Global). IsNodeQueue (label_of s'.labels.items) (settled_of bs.items) s'.queue)
           (sym moves.settled)
           (queue_moved
-          (label_of s.labels.items)
-          (label_of s'.labels.items)
-          (settled_of s.settled.items)
-          s.queue
           s'.queue
-          v
-          c
           on.queue
           (subst
           (λ (ls : List (Option Label)). IsPut (label_of s.labels.items) (label_of ls) v (Some c))
@@ -83,7 +78,7 @@ takes_first {s} {s'} {v} {c} on none puts =
             elim ((puts.queue k).0 there) [
               | inl new ↦ inl new
               | inr old ↦
-                  inr (old, no_entry (label_of s.labels.items) (settled_of s.settled.items) s.queue v on.queue none k old)
+                  inr (old, no_entry v on.queue none k old)
             ],
         λ either. elim either [ inl new ↦ (puts.queue k).1 (inl new) | inr old ↦ (puts.queue k).1 (inr old.0) ],
       );
@@ -122,7 +117,7 @@ takes_again {s} {s'} {v} {c} own rest on has worse removed puts =
     (no_worse_otherwise own c worse))
   where
     only : (k : Entry) → Among k s.queue → (k ≢ entry_of own v) ↔ (k.2 ≢ v)
-    only k there = one_entry (label_of s.labels.items) (settled_of s.settled.items) s.queue v own on.queue has k there
+    only k there = one_entry v own on.queue has k there
 
 -- after the offer of an arc that was pending the others are left to be looked at
 module _ (g : GraphView) (s s' : Search) (last : Label) (e : ℕ) (rest : List ℕ)
@@ -139,20 +134,11 @@ module _ (g : GraphView) (s s' : Search) (last : Label) (e : ℕ) (rest : List �
         settled_len = on.settled_len;
         search =
             elim nothing.won [
-              | inl done ↦ kept_settled g s.destination on.limits label settled count last e rest on.search done
-              | inr won ↦ kept g s.destination on.limits label settled count last e rest on.search won
+              | inl done ↦ kept_settled on.limits on.search done
+              | inr won ↦ kept on.limits on.search won
             ];
         queue = on.queue;
       })
-    where
-      label : ℕ → Option Label
-      label = label_of s.labels.items
-
-      settled : ℕ → Bool
-      settled = settled_of s.settled.items
-
-      count : ℕ
-      count = settled_count s.settled.items
 
   -- where it is taken
   taken : (arc_at g.arcs e).from < length s.labels.items → TakesLabel s s' (arc_at g.arcs e).from (offer_of g.arcs e last)
@@ -173,16 +159,7 @@ module _ (g : GraphView) (s s' : Search) (last : Label) (e : ℕ) (rest : List �
             (λ (bs : Vec Bool Global). IsSearch g s.destination label' (settled_of bs.items) (settled_count bs.items) last rest)
             (sym step.settled)
             (bettered
-            g
-            s.destination
             on.limits
-            (label_of s.labels.items)
-            (label_of s'.labels.items)
-            (settled_of s.settled.items)
-            (settled_count s.settled.items)
-            last
-            e
-            rest
             on.search
             (subst
             (λ (ls : List (Option Label)).

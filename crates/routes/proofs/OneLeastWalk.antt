@@ -3,6 +3,7 @@ use Rattle.std.proofs.Common.{◌≡◌, ℕ, inl, inr, List, [], ◌∷◌, ref
 use Rattle.routes.specs.declared.graph.Arc.{Arc}
 use Rattle.routes.specs.LeastWalk.{IsNoLater, IsNoGreater, IsLeastWalk}
 
+-- of two lists each of which is no later than the other, the first items are equal, and so on
 same_lists : (es fs : List ℕ) → IsNoLater es fs → IsNoLater fs es → es ≡ fs
 same_lists [] [] there back = refl
 same_lists [] (f ∷ fs) there back = absurd back
@@ -17,6 +18,7 @@ same_lists (e ∷ es) (f ∷ fs) there back =
           ]
     ]
 
+-- by the first of weight, number of arcs and list in which two keys differ
 same_keys : (arcs : List Arc) (es fs : List ℕ) → IsNoGreater arcs es fs → IsNoGreater arcs fs es → es ≡ fs
 same_keys arcs es fs there back =
     elim there [
@@ -37,6 +39,7 @@ same_keys arcs es fs there back =
           ]
     ]
 
+-- the key of each is at most that of the other
 pub one_least_walk : (arcs : List Arc) (a b : ℕ) (es fs : List ℕ) → IsLeastWalk arcs a b es → IsLeastWalk arcs a b fs → es ≡ fs
 one_least_walk arcs a b es fs own other =
     same_keys arcs es fs (own.least fs other.walk) (other.least es own.walk)

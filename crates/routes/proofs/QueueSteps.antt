@@ -38,11 +38,11 @@ queue_begun label settled goal queue put none members =
     }
 
 -- a node that is taken from the queue is settled
-pub queue_settled : (label : ℕ → Option Label) (settled settled' : ℕ → Bool) (queue queue' : List Entry) (first : Entry)
+pub queue_settled : {label : ℕ → Option Label} {settled settled' : ℕ → Bool} {queue : List Entry} (queue' : List Entry) {first : Entry}
     → IsNodeQueue label settled queue → Among first queue → IsPut settled settled' first.2 true
     → ((k : Entry) → Among k queue' ↔ (Among k queue × (k ≢ first)))
     → IsNodeQueue label settled' queue'
-queue_settled label settled settled' queue queue' first on was put members =
+queue_settled {label} {settled} {settled'} {queue} queue' {first} on was put members =
     record {
       waits = λ v l has waits.
           let away : v ≢ first.2 = (λ here. true≢false (sym put.here ∙ subst (λ w. settled' w ≡ false) here waits)) in
@@ -61,11 +61,11 @@ queue_settled label settled settled' queue queue' first on was put members =
     }
 
 -- a node that waits gets another label, and its entry with it
-pub queue_moved : (label label' : ℕ → Option Label) (settled : ℕ → Bool) (queue queue' : List Entry) (v : ℕ) (c : Label)
+pub queue_moved : {label label' : ℕ → Option Label} {settled : ℕ → Bool} {queue : List Entry} (queue' : List Entry) {v : ℕ} {c : Label}
     → IsNodeQueue label settled queue → IsPut label label' v (Some c) → settled v ≡ false
     → ((k : Entry) → Among k queue' ↔ ((entry_of c v ≡ k) ⊎ (Among k queue × (k.2 ≢ v))))
     → IsNodeQueue label' settled queue'
-queue_moved label label' settled queue queue' v c on put waits' members =
+queue_moved {label} {label'} {settled} {queue} queue' {v} {c} on put waits' members =
     record {
       waits = λ w l has waits.
           elim (cases_eq w v) [
@@ -85,16 +85,16 @@ queue_moved label label' settled queue queue' v c on put waits' members =
     }
 
 -- without a label a node has no entry
-pub no_entry : (label : ℕ → Option Label) (settled : ℕ → Bool) (queue : List Entry) (v : ℕ) → IsNodeQueue label settled queue
+pub no_entry : {label : ℕ → Option Label} {settled : ℕ → Bool} {queue : List Entry} (v : ℕ) → IsNodeQueue label settled queue
     → label v ≡ None → (k : Entry) → Among k queue → k.2 ≢ v
-no_entry label settled queue v on none k there here =
+no_entry {label} {settled} {queue} v on none k there here =
     let own = on.stands k there in
     none-some own.own (sym (subst (λ w. label w ≡ None) (sym here) none) ∙ own.has)
 
 -- a node with a label has at most the entry of that label
-pub one_entry : (label : ℕ → Option Label) (settled : ℕ → Bool) (queue : List Entry) (v : ℕ) (l : Label)
+pub one_entry : {label : ℕ → Option Label} {settled : ℕ → Bool} {queue : List Entry} (v : ℕ) (l : Label)
     → IsNodeQueue label settled queue → label v ≡ Some l → (k : Entry) → Among k queue → (k ≢ entry_of l v) ↔ (k.2 ≢ v)
-one_entry label settled queue v l on has k there = (
+one_entry {label} {settled} {queue} v l on has k there = (
   λ other here.
       let has' : label k.2 ≡ Some l = subst (λ w. label w ≡ Some l) (sym here) has in
       other (entry_is label settled k l (on.stands k there) has' ∙ ap (λ w. entry_of l w) here),

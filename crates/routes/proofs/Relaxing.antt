@@ -1,5 +1,5 @@
 -- One arc of the row is looked at: what the code needs of it, and what its offer leaves.
-use Rattle.std.proofs.Common.{◌≡◌, ℕ, ◌+◌, ◌^◌, ◌<◌, ◌≤◌, Bool, List, ◌∷◌, length, get_or, drop, inl, inr, refl, ap, subst, ◌∙◌, arith, add-one}
+use Rattle.std.proofs.Common.{◌≡◌, ℕ, ◌+◌, ◌^◌, ◌<◌, Bool, List, ◌∷◌, length, get_or, drop, inl, inr, refl, ap, subst, ◌∙◌, arith, add-one}
 use Rattle.std.proofs.Math.Seq.{drop-cons}
 use Rattle.std.proofs.lemmas.List.Sums.{count_by-le-length}
 use Rattle.routes.specs.declared.graph.Arc.{Arc}
@@ -39,9 +39,11 @@ module _ {g : GraphView} {s : Search} {last : Label} {row : List ℕ} {i : ℕ} 
       let low : i < length row = at.more in
       subst (λ (es : List ℕ). IsSearching g s last es) (rw (add-one, drop-cons row i 0)) at.on
 
+  -- which leads into the node that was settled last
   pending : IsPending g.arcs (label_of s.labels.items) (settled_of s.settled.items) (settled_count s.settled.items) last (get_or row i 0)
   pending = first.search.pends (get_or row i 0) (inl refl)
 
+  -- between two nodes, with a weight in its range
   among : IsArcAmong g.nodes (arc_at g.arcs (get_or row i 0))
   among = at.on.limits.arcs (get_or row i 0) no_arc pending.below
 

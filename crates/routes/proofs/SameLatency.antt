@@ -1,18 +1,20 @@
 -- Why pipes that distill a graph keep least latencies. Along a walk of links one comes to each outer node, and to each node of the
 -- border where one leaves the inner arcs, by pipes that are no longer; and each walk of pipes stands for a walk of links.
-use Rattle.std.proofs.Common.{◌≡◌, ◌≢◌, ◌↔◌, ℕ, ◌+◌, ◌<◌, ◌≤◌, ◌⊎◌, inl, inr, Bool, true, false, List, [], ◌∷◌, ◌++◌, length, refl, sym, ap, subst, ◌∙◌, arith}
+use Rattle.std.proofs.Common.{◌≡◌, ◌≢◌, ℕ, ◌+◌, ◌<◌, ◌≤◌, ◌⊎◌, inl, inr, Bool, true, false, List, [], ◌∷◌, ◌++◌, length, refl, sym, subst, ◌∙◌, arith}
 use Rattle.std.proofs.lemmas.Bool.{cases_eq, cases_Bool, true≢false}
 use Rattle.mn_base.specs.Among.{Among}
 use Rattle.routes.specs.declared.graph.Arc.{Arc}
 use Rattle.routes.specs.Walk.{arc_at, IsWalk, weight_of}
-use Rattle.routes.specs.SameLatency.{IsLeastLatency, IsJoined, HaveSameLatency, IsInner, IsInnerWalk, HasArc, HasWalk, IsDistilledBy, IsTerminal}
+use Rattle.routes.specs.SameLatency.{IsLeastLatency, HaveSameLatency, IsInner, IsInnerWalk, HasArc, HasWalk, IsDistilledBy, IsTerminal}
 
 -- ---- walks one after the other
+-- a walk from a to b and one from b to c are one from a to c
 pub IsWalk-append : (arcs : List Arc) (a b c : ℕ) (es fs : List ℕ) → IsWalk arcs a b es → IsWalk arcs b c fs → IsWalk arcs a c (es ++ fs)
 IsWalk-append arcs a b c [] fs first then' = subst (λ x. IsWalk arcs x c fs) (sym first) then'
 IsWalk-append arcs a b c (e ∷ es) fs first then' =
     (first.0, first.1, IsWalk-append arcs (arc_at arcs e).to b c es fs first.2 then')
 
+-- they weigh as much as both together
 pub weight_of-append : (arcs : List Arc) (es fs : List ℕ) → weight_of arcs (es ++ fs) ≡ weight_of arcs es + weight_of arcs fs
 weight_of-append arcs [] fs = omega arith
 weight_of-append arcs (e ∷ es) fs = let rest = weight_of-append arcs es fs in omega arith
@@ -58,6 +60,7 @@ inner_start : (arcs : List Arc) (outer : ℕ → Bool) (c x : ℕ) (ps : List �
 inner_start arcs outer c x [] walk differ = absurd (differ walk)
 inner_start arcs outer c x (p ∷ ps) walk differ = subst (λ v. outer v ≡ false) walk.1 walk.2.from
 
+-- so does its end
 inner_end : (arcs : List Arc) (outer : ℕ → Bool) (c x : ℕ) (ps : List ℕ) → IsInnerWalk arcs outer c x ps → c ≢ x → outer x ≡ false
 inner_end arcs outer c x [] walk differ = absurd (differ walk)
 inner_end arcs outer c x (p ∷ ps) walk differ =
@@ -168,6 +171,7 @@ module _ (outer : ℕ → Bool) (border : List ℕ) (arcs pipes : List Arc) (by 
             record { walk = all.walk; joins = all.joins; weight = (let w = all.weight in omega arith) }
       ]
 
+  -- in particular from its start
   there : (a b : ℕ) (es : List ℕ) → IsTerminal outer border a → IsTerminal outer border b → IsWalk arcs a b es
       → HasWalkUpTo pipes a b (weight_of arcs es)
   there a b es start end walk =

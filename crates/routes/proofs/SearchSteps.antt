@@ -1,6 +1,6 @@
 -- The steps of a search, over plain functions from nodes to labels.
 use Rattle.std.proofs.Common.{◌≡◌, ◌≢◌, ℕ, ◌+◌, ◌*◌, ◌≤◌, inl, inr, Bool, true, false, List, [], ◌∷◌, Option, Some, None, refl, sym, subst, ◌∙◌, arith}
-use Rattle.std.proofs.lemmas.Bool.{cases_eq, cases_lt, true≢false}
+use Rattle.std.proofs.lemmas.Bool.{cases_eq, true≢false}
 use Rattle.std.proofs.lemmas.Option.{none-some}
 use Rattle.mn_base.specs.declared.limits.TheConstants.{PIPE_LATENCY_US_MAX}
 use Rattle.routes.specs.declared.graph.Arc.{Arc}
@@ -9,105 +9,16 @@ use Rattle.routes.specs.GraphView.{GraphView, IsWithinLimits}
 use Rattle.routes.specs.Walk.{no_arc, arc_at}
 use Rattle.routes.specs.Table.{home, offer_of, IsNoFarther, IsNoWorse, HasNoWorse, IsTable}
 use Rattle.routes.specs.Search.{IsLedBySettled, IsInto, IsSearch}
-
--- ---- the order of labels
-pub no_farther_trans : (a b c : Label) → IsNoFarther a b → IsNoFarther b c → IsNoFarther a c
-no_farther_trans a b c ab bc =
-    elim ab [
-      | inl less ↦ elim bc [ inl more ↦ inl (omega arith) | inr tie ↦ inl (let h = tie.0 in omega arith) ]
-      | inr same ↦
-          elim bc [
-            | inl more ↦ inl (let h = same.0 in omega arith)
-            | inr tie ↦ inr (same.0 ∙ tie.0, (let h = same.1 in let k = tie.1 in omega arith))
-          ]
-    ]
-
-pub no_worse_trans : (a b c : Label) → IsNoWorse a b → IsNoWorse b c → IsNoWorse a c
-no_worse_trans a b c ab bc =
-    elim ab [
-      | inl less ↦ elim bc [ inl more ↦ inl (omega arith) | inr tie ↦ inl (let h = tie.0 in omega arith) ]
-      | inr same ↦
-          elim bc [
-            | inl more ↦ inl (let h = same.0 in omega arith)
-            | inr tie ↦
-                inr (
-                  same.0 ∙ tie.0,
-                  elim same.1 [
-                    | inl fewer ↦ elim tie.1 [ inl more ↦ inl (omega arith) | inr even ↦ inl (let h = even.0 in omega arith) ]
-                    | inr level ↦
-                        elim tie.1 [
-                          | inl more ↦ inl (let h = level.0 in omega arith)
-                          | inr even ↦ inr (level.0 ∙ even.0, (let h = level.1 in let k = even.1 in omega arith))
-                        ]
-                  ],
-                )
-          ]
-    ]
-
--- of two labels one is no worse than the other
-pub no_worse_otherwise : (a b : Label) → (IsNoWorse a b → ⊥) → IsNoWorse b a
-no_worse_otherwise a b worse =
-    elim (cases_lt b.weight a.weight) [
-      | inl lighter ↦ inl lighter
-      | inr up ↦
-          elim (cases_eq a.weight b.weight) [
-            | inr apart ↦ absurd (worse (inl (omega arith)))
-            | inl even ↦
-                inr (
-                  sym even,
-                  elim (cases_lt b.hops a.hops) [
-                    | inl fewer ↦ inl fewer
-                    | inr more ↦
-                        elim (cases_eq a.hops b.hops) [
-                          | inr apart ↦ absurd (worse (inr (even, inl (omega arith))))
-                          | inl level ↦
-                              inr (
-                                sym level,
-                                elim (cases_lt b.next a.next) [
-                                  | inl less ↦ omega arith
-                                  | inr least ↦ absurd (worse (inr (even, inr (level, least))))
-                                ],
-                              )
-                        ]
-                  ],
-                )
-          ]
-    ]
-
-pub no_worse_itself : (a : Label) → IsNoWorse a a
-no_worse_itself a = inr (refl, inr (refl, omega arith))
-
--- an offer is no nearer than what it comes from, and never as good as a label that is no farther
-pub offer_beyond : (arcs : List Arc) (e : ℕ) (m : Label) → IsNoFarther m (offer_of arcs e m)
-offer_beyond arcs e m =
-    let w = (arc_at arcs e).weight in
-    elim (cases_lt m.weight (w + m.weight)) [
-      | inl heavier ↦ inl heavier
-      | inr even ↦ inr (omega arith, omega arith)
-    ]
-
-pub farther_is_worse : (arcs : List Arc) (e : ℕ) (l m : Label) → IsNoFarther l m → IsNoWorse l (offer_of arcs e m)
-farther_is_worse arcs e l m near =
-    let w = (arc_at arcs e).weight in
-    elim near [
-      | inl less ↦ inl (omega arith)
-      | inr tie ↦
-          let same : l.weight ≡ m.weight = tie.0 in
-          let hops : l.hops ≤ m.hops = tie.1 in
-          elim (cases_lt m.weight (w + m.weight)) [
-            | inl heavier ↦ inl (omega arith)
-            | inr even ↦ inr (omega arith, inl (omega arith))
-          ]
-    ]
+use Rattle.routes.proofs.LabelOrder.{no_farther_trans, no_worse_trans, no_worse_itself, offer_beyond, farther_is_worse}
 
 -- two labels of one node are one
 pub one_label : (label : ℕ → Option Label) (v : ℕ) (l m : Label) → label v ≡ Some l → label v ≡ Some m → l ≡ m
 one_label label v l m a b = let e : Some l ≡ Some m = sym a ∙ b in cc
 
 -- what holds of an arc and its end's label holds of it under another name
-same_arc : (arcs : List Arc) (label : ℕ → Option Label) (P : ℕ → Label → Type 0) (e f : ℕ) (l m : Label)
+same_arc : (arcs : List Arc) (label : ℕ → Option Label) (P : ℕ → Label → Type 0) {e f : ℕ} {l m : Label}
     → label (arc_at arcs e).to ≡ Some l → label (arc_at arcs f).to ≡ Some m → e ≡ f → P e l → P f m
-same_arc arcs label P e f l m to to' here holds =
+same_arc arcs label P {e} {f} {l} {m} to to' here holds =
     let same : l ≡ m = one_label label (arc_at arcs f).to l m (subst (λ k. label (arc_at arcs k).to ≡ Some l) here to) to' in
     subst (λ (n : Label). P f n) same (subst (λ k. P k l) here holds)
 
@@ -116,13 +27,13 @@ pub record IsPut {X : Type 0} (label label' : ℕ → X) (v : ℕ) (c : X) : Typ
   pub here : label' v ≡ c
   pub other : (w : ℕ) → w ≢ v → label' w ≡ label w
 
-module _ (g : GraphView) (goal : ℕ) (limits : IsWithinLimits g) where
+module _ {g : GraphView} {goal : ℕ} (limits : IsWithinLimits g) where
   -- an arc whose start has no worse label need not be looked at
-  pub kept : (label : ℕ → Option Label) (settled : ℕ → Bool) (count : ℕ) (last : Label) (e : ℕ) (rest : List ℕ)
+  pub kept : {label : ℕ → Option Label} {settled : ℕ → Bool} {count : ℕ} {last : Label} {e : ℕ} {rest : List ℕ}
       → IsSearch g goal label settled count last (e ∷ rest)
       → HasNoWorse label (arc_at g.arcs e).from (offer_of g.arcs e last)
       → IsSearch g goal label settled count last rest
-  kept label settled count last e rest on won =
+  kept {label} {settled} {count} {last} {e} {rest} on won =
       record {
         at_home = on.at_home;
         led = on.led;
@@ -135,10 +46,6 @@ module _ (g : GraphView) (goal : ℕ) (limits : IsWithinLimits g) where
                         g.arcs
                         label
                         (λ k (l : Label). HasNoWorse label (arc_at g.arcs k).from (offer_of g.arcs k l))
-                        e
-                        f
-                        last
-                        m
                         (on.pends e (inl refl)).to
                         to
                         here
@@ -156,20 +63,21 @@ module _ (g : GraphView) (goal : ℕ) (limits : IsWithinLimits g) where
       }
 
   -- an arc whose start is settled need not be looked at
-  pub kept_settled : (label : ℕ → Option Label) (settled : ℕ → Bool) (count : ℕ) (last : Label) (e : ℕ) (rest : List ℕ)
+  pub kept_settled : {label : ℕ → Option Label} {settled : ℕ → Bool} {count : ℕ} {last : Label} {e : ℕ} {rest : List ℕ}
       → IsSearch g goal label settled count last (e ∷ rest)
       → settled (arc_at g.arcs e).from ≡ true
       → IsSearch g goal label settled count last rest
-  kept_settled label settled count last e rest on done =
+  kept_settled {label} {settled} {count} {last} {e} {rest} on done =
       let there = on.reached (arc_at g.arcs e).from done in
-      kept label settled count last e rest on
+      kept
+      on
       (record {
         own = there.own;
         has = there.has;
         below = farther_is_worse g.arcs e there.own last (on.behind (arc_at g.arcs e).from there.own done there.has);
       })
 
-  module _ (label label' : ℕ → Option Label) (settled : ℕ → Bool) (count : ℕ) (last : Label) (e : ℕ) (rest : List ℕ)
+  module _ {label label' : ℕ → Option Label} {settled : ℕ → Bool} {count : ℕ} {last : Label} {e : ℕ} {rest : List ℕ}
       (on : IsSearch g goal label settled count last (e ∷ rest))
       (put : IsPut label label' (arc_at g.arcs e).from (Some (offer_of g.arcs e last)))
       (waits : settled (arc_at g.arcs e).from ≡ false)
@@ -264,10 +172,6 @@ module _ (g : GraphView) (goal : ℕ) (limits : IsWithinLimits g) where
         g.arcs
         label
         (λ k (l : Label). HasNoWorse label' (arc_at g.arcs k).from (offer_of g.arcs k l))
-        e
-        f
-        last
-        m
         (on.pends e (inl refl)).to
         to
         here
@@ -329,7 +233,7 @@ module _ (g : GraphView) (goal : ℕ) (limits : IsWithinLimits g) where
         }
 
   -- the nearest node that waits is settled, and the arcs into it are still to be looked at
-  module _ (label : ℕ → Option Label) (settled settled' : ℕ → Bool) (count : ℕ) (last : Label) (u : ℕ) (l : Label) (row : List ℕ)
+  module _ {label : ℕ → Option Label} {settled settled' : ℕ → Bool} {count : ℕ} {last : Label} {u : ℕ} {l : Label} {row : List ℕ}
       (on : IsSearch g goal label settled count last [])
       (put : IsPut settled settled' u true)
       (has : label u ≡ Some l)
@@ -421,10 +325,10 @@ module _ (g : GraphView) (goal : ℕ) (limits : IsWithinLimits g) where
           ]
 
   -- once each node that has a label is settled, the labels are a table
-  pub finished : (label : ℕ → Option Label) (settled : ℕ → Bool) (count : ℕ) (last : Label)
+  pub finished : {label : ℕ → Option Label} {settled : ℕ → Bool} {count : ℕ} {last : Label}
       → IsSearch g goal label settled count last [] → ((v : ℕ) (l : Label) → label v ≡ Some l → settled v ≡ true)
       → IsTable g.arcs goal label
-  finished label settled count last on all =
+  finished {label} {settled} {count} {last} on all =
       record {
         at_home = on.at_home;
         led = λ v l has away. (on.led v l has away).led;

@@ -1,9 +1,9 @@
 -- The nearest node is settled: it is taken from the queue and marked, and the arcs into it are looked at next.
-use Rattle.std.proofs.Common.{◌≡◌, ◌≢◌, ◌↔◌, ℕ, ◌+◌, ◌-◌, ◌<◌, Bool, true, List, [], length, set, Option, Some, Vec, Global, refl, sym, ap, subst, ◌∙◌, arith, length-set}
+use Rattle.std.proofs.Common.{◌≡◌, ◌≢◌, ◌↔◌, ℕ, ◌+◌, ◌-◌, ◌<◌, Bool, true, List, length, set, Option, Some, Vec, Global, refl, sym, ap, subst, ◌∙◌, arith, length-set}
 use Rattle.mn_base.specs.Among.{Among}
 use Rattle.routes.specs.declared.label.Label.{Label}
 use Rattle.routes.specs.declared.search.Search.{Search}
-use Rattle.routes.specs.GraphView.{GraphView, IsWithinLimits}
+use Rattle.routes.specs.GraphView.{GraphView}
 use Rattle.routes.specs.NodeQueue.{Entry, IsUpTo}
 use Rattle.routes.specs.Table.{label_of, IsRoutes}
 use Rattle.routes.specs.Search.{settled_of, settled_count, entry_of, IsEntry, IsNodeQueue, IsInto, IsSearch}
@@ -36,6 +36,7 @@ popped {s} {k} {rest} pops = pops.queue.stands k pops.there
 pub label_place : {s : Search} {k : Entry} {rest : List Entry} → Pops s k rest → k.2 < length s.labels.items
 label_place {s} {k} {rest} pops = let own = popped pops in has_place s.labels.items k.2 own.own own.has
 
+-- the two lists are as long
 pub settled_place : {s : Search} {k : Entry} {rest : List Entry} → Pops s k rest → k.2 < length s.settled.items
 settled_place {s} {k} {rest} pops = let low = label_place pops in let same = pops.places in omega arith
 
@@ -50,12 +51,7 @@ settles {s} {k} {rest} l pops has settled' is =
       settled = is;
       queue =
           queue_settled
-          (label_of s.labels.items)
-          (settled_of s.settled.items)
-          (settled_of settled'.items)
-          s.queue
           rest
-          k
           pops.queue
           pops.there
           (subst
@@ -124,17 +120,7 @@ row_next {g} {s} {s'} {v} {l} row rest step into =
     next : IsSearch g s.destination (label_of s.labels.items) (settled_of s'.settled.items) (settled_count s.settled.items + 1) l row
     next =
         settled_next
-        g
-        s.destination
         rest.on.limits
-        (label_of s.labels.items)
-        (settled_of s.settled.items)
-        (settled_of s'.settled.items)
-        (settled_count s.settled.items)
-        rest.last
-        v
-        l
-        row
         rest.on.search
         (subst
         (λ (bs : List Bool). IsPut (settled_of s.settled.items) (settled_of bs) v true)
@@ -168,14 +154,5 @@ routes_made {g} {s} {s'} rest end low =
       len = rest.on.labels_len;
       place = low;
       table =
-          finished
-          g
-          s.destination
-          rest.on.limits
-          (label_of s.labels.items)
-          (settled_of s.settled.items)
-          (settled_count s.settled.items)
-          rest.last
-          rest.on.search
-          end.all;
+          finished rest.on.limits rest.on.search end.all;
     })

@@ -59,7 +59,7 @@ started g s fresh =
           subst
           (λ n. IsSearch g s.destination (label_of s.labels.items) (settled_of s.settled.items) n home [])
           (sym zero')
-          (begun g s.destination fresh.limits (label_of s.labels.items) (settled_of s.settled.items) only_home none);
+          (begun fresh.limits (label_of s.labels.items) (settled_of s.settled.items) only_home none);
       queue = queue_begun (label_of s.labels.items) (settled_of s.settled.items) s.destination s.queue only_home none fresh.queue;
     }
   where

@@ -8,7 +8,7 @@ use Rattle.routes.specs.declared.label.Label.{Label}
 use Rattle.routes.specs.GraphView.{GraphView}
 use Rattle.routes.specs.NodeQueue.{Entry}
 use Rattle.routes.specs.Walk.{arc_at}
-use Rattle.routes.specs.Table.{label_of, home, offer_of, IsNoFarther, IsNoWorse, IsLedBy, HasNoWorse}
+use Rattle.routes.specs.Table.{home, offer_of, IsNoFarther, IsLedBy, HasNoWorse}
 
 -- whether a node is settled
 abbrev pub settled_of : List Bool → ℕ → Bool

@@ -1,4 +1,4 @@
-use Rattle.std.proofs.Common.{ℕ, List, subst, ◌↔◌, ◌≢◌, IfSome}
+use Rattle.std.proofs.Common.{List, subst, ◌↔◌, ◌≢◌, IfSome}
 use Rattle.mn_base.specs.Among.{Among}
 use Rattle.routes.specs.NodeQueue.{Entry, IsUpTo}
 use Rattle.routes.proofs.Entries.{rest_of_pop, least_of_pop}

@@ -1,4 +1,4 @@
-use Rattle.std.proofs.Common.{ℕ, List, subst, ◌↔◌, ◌⊎◌, ◌≡◌}
+use Rattle.std.proofs.Common.{List, subst, ◌↔◌, ◌⊎◌, ◌≡◌}
 use Rattle.mn_base.specs.Among.{Among}
 use Rattle.routes.specs.NodeQueue.{Entry}
 use Rattle.routes.proofs.Entries.{among_pushed}

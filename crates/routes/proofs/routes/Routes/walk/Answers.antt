@@ -1,4 +1,4 @@
-use Rattle.std.proofs.Common.{◌≡◌, ◌<◌, ℕ, ◌+◌, ◌++◌, List, [], ◌∷◌, length, refl, sym, subst, ◌∙◌, arith}
+use Rattle.std.proofs.Common.{refl, sym, ◌∙◌, arith}
 use Rattle.std.proofs.lemmas.Bool.{true≢false}
 use Rattle.std.proofs.lemmas.Option.{none-some}
 use Rattle.routes.specs.LeastWalk.{IsLeastWalk}
@@ -6,7 +6,7 @@ use Rattle.routes.specs.Table.{label_of}
 use Rattle.routes.proofs.Lists.{label_read}
 use Rattle.routes.proofs.NoNodeTwice.{no_arc_twice, arcs_named, short}
 use Rattle.routes.proofs.Table.{no_walk}
-use Rattle.routes.proofs.Way.{source_place, starts, GoesOn, goes, node_place, next_below, goes_on, written, IsOnWay}
+use Rattle.routes.proofs.Way.{source_place, starts, goes, node_place, next_below, goes_on, written}
 use Rattle.routes.proofs.routes.Routes.walk.Goals as goal
 
 pub returns-in_default-clause-none : goal.returns-in_default-clause-none

@@ -1,11 +1,10 @@
-use Rattle.std.proofs.Common.{◌≡◌, ◌≢◌, ◌↔◌, ◌<◌, ℕ, false, Some, None, IsTrue, inr, length, subst, sym, ◌∙◌, arith}
+use Rattle.std.proofs.Common.{◌≡◌, ◌≢◌, ◌↔◌, inr, subst, sym, ◌∙◌}
 use Rattle.std.proofs.lemmas.Bool.{true≢false}
 use Rattle.mn_base.specs.Among.{Among}
 use Rattle.routes.specs.declared.label.Label.{Label}
 use Rattle.routes.specs.NodeQueue.{Entry}
-use Rattle.routes.specs.Table.{label_of, IsNoWorse}
-use Rattle.routes.specs.Search.{settled_of}
-use Rattle.routes.proofs.Lists.{label_read, settled_read}
+use Rattle.routes.specs.Table.{IsNoWorse}
+use Rattle.routes.proofs.Lists.{label_read}
 use Rattle.routes.proofs.Offering.{on_ok, is_open, takes_first, takes_again}
 use Rattle.routes.proofs.search.Search.offer.Goals as goal
 

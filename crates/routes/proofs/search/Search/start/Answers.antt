@@ -1,4 +1,4 @@
-use Rattle.std.proofs.Common.{◌<◌, ℕ, List, Option, None, Some, false, inl, inr, replicate, set, subst, sym, ap, ◌∙◌, ◌≡◌, rules}
+use Rattle.std.proofs.Common.{ℕ, List, Option, None, Some, false, inl, inr, replicate, set, subst, ap, ◌≡◌, rules}
 use Rattle.mn_base.specs.Among.{Among}
 use Rattle.routes.specs.declared.label.Label.{Label}
 use Rattle.routes.specs.NodeQueue.{Entry}
