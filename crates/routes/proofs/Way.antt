@@ -1,5 +1,5 @@
 -- The loop that writes a walk: what is written so far, and the path from the node that it has come to, are the whole path.
-use Rattle.std.proofs.Common.{◌≡◌, ℕ, suc, ◌+◌, ◌<◌, ◌≤◌, ◌↔◌, IsTrue, is_some, List, [], ◌∷◌, ◌++◌, length, Option, Some, None, inl, inr, refl, sym, ap, subst, ◌∙◌, arith}
+use Rattle.std.proofs.Common.{◌≡◌, ℕ, suc, ◌+◌, ◌<◌, ◌≤◌, ◌↔◌, IsTrue, is_some, List, [], ◌∷◌, ◌++◌, length, get_or, Option, Some, None, inl, inr, refl, sym, ap, subst, ◌∙◌, arith}
 use Rattle.std.proofs.lemmas.Bool.{cases_eq, false≢true}
 use Rattle.std.proofs.lemmas.List.{append_assoc, append-nil}
 use Rattle.routes.specs.declared.graph.Arc.{Arc}
@@ -9,7 +9,7 @@ use Rattle.routes.specs.RoutesView.{RoutesView}
 use Rattle.routes.specs.Walk.{arc_at, IsWalk}
 use Rattle.routes.specs.LeastWalk.{IsLeastWalk}
 use Rattle.routes.specs.Table.{label_of, home, IsLedBy, IsRoutes}
-use Rattle.routes.proofs.Lists.{has_place}
+use Rattle.routes.proofs.Lists.{label_read, has_place}
 use Rattle.routes.proofs.Table.{path, next_of, least_walk, no_walk}
 
 -- the arcs in out lead from the source to node, the first `taken` of `hops`
@@ -109,7 +109,7 @@ module _ {g : GraphView} {labels : List (Option Label)} {goal source hops node t
             step.on.has
 
 -- after the last step the least walk is written
-pub written : {g : GraphView} {labels : List (Option Label)} {goal source node taken : ℕ} {out : List ℕ} (first : Label)
+written : {g : GraphView} {labels : List (Option Label)} {goal source node taken : ℕ} {out : List ℕ} (first : Label)
     → IsRoutes g labels goal → label_of labels source ≡ Some first
     → IsOnWay g.arcs labels source first.hops node taken out → first.hops ≤ taken → IsLeastWalk g.arcs source goal out
 written {g} {labels} {goal} {source} {node} {taken} {out} first routes has on done =
@@ -118,6 +118,36 @@ written {g} {labels} {goal} {source} {node} {taken} {out} first routes has on do
     (λ es. IsLeastWalk g.arcs source goal es)
     (on.way ∙ subst (λ k. out ++ path g.arcs (label_of labels) k node ≡ out) (sym none) (append-nil out))
     (least_walk g.arcs goal (label_of labels) routes.table source first has)
+
+-- the routes r, with their labels, of whose source the label is read
+pub record ReadsLabel (g : GraphView) (labels : List (Option Label)) (goal : ℕ) (r : RoutesView) (source : ℕ) (o : Option Label) : Type 0 where
+  pub routes : IsRoutes g labels goal
+  pub seen : record { graph = g; destination = goal } ≡ r
+  pub node : source < r.graph.nodes
+  pub read : o ≡ get_or labels source o
+
+-- the same by the steps of the code
+pub reads : {g : GraphView} {labels : List (Option Label)} {goal source : ℕ} {r : RoutesView} (o : Option Label)
+    → IsRoutes g labels goal → record { graph = g; destination = goal } ≡ r → source < r.graph.nodes → o ≡ get_or labels source o
+    → ReadsLabel g labels goal r source o
+reads o routes seen node read = record { routes = routes; seen = seen; node = node; read = read }
+
+-- it is the source's label
+pub reads_own : {g : GraphView} {labels : List (Option Label)} {goal source : ℕ} {r : RoutesView} {o : Option Label}
+    → ReadsLabel g labels goal r source o → label_of labels source ≡ o
+reads_own {g} {labels} {goal} {source} {r} {o} reads' =
+    label_read labels source o (source_place reads'.routes reads'.seen reads'.node) reads'.read
+
+-- so the loop's end has written the least walk of these routes
+pub walk_written : {g : GraphView} {labels : List (Option Label)} {goal source node taken : ℕ} {r : RoutesView} {o : Option Label}
+    {out : List ℕ} (first : Label) → ReadsLabel g labels goal r source o → o ≡ Some first
+    → IsOnWay g.arcs labels source first.hops node taken out → first.hops ≤ taken
+    → IsLeastWalk r.graph.arcs source r.destination out
+walk_written {g} {labels} {goal} {source} {node} {taken} {r} {o} {out} first reads' is on done =
+    subst
+    (λ (v : RoutesView). IsLeastWalk v.graph.arcs source v.destination out)
+    reads'.seen
+    (written first reads'.routes (reads_own reads' ∙ is) on done)
 
 -- a node has a label if and only if a walk leads from it to the destination
 pub reached_iff : {g : GraphView} {labels : List (Option Label)} {goal : ℕ} (source : ℕ) (o : Option Label)
