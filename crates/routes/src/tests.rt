@@ -1,6 +1,6 @@
 ghost use Rattle.std.specs.Prelude.{◌≡◌, ◌<◌, ◌≤◌, length, IfOk};
 
-use crate::{Arc, Graph, Routes};
+use crate::{Arc, Graph, Incoming, Routes};
 use mn_base::NoMemory;
 use std::alloc::Global;
 use std::test::Fail;
@@ -198,14 +198,14 @@ fn is_walk_of(walk: &[u32], key: (u64, u32, usize, usize)) -> bool {
 /// Whether all walks to one node of a graph of three are those of the listing.
 fn agrees_toward(
     alloc: Global,
-    graph: &Graph,
+    incoming: &Incoming,
     ends: &[(u32, u32, u64)],
     to: u32,
 ) -> Result<bool, NoMemory>
-    requires nodes { graph.now.nodes ≡ 3 }
+    requires nodes { incoming.now.nodes ≡ 3 }
     requires to { to < 3 }
 {
-    let routes = Routes::toward(alloc, graph, to)?;
+    let routes = Routes::by_incoming(alloc, incoming, to)?;
     for from in 0..3 {
         let agrees = match (routes.walk(alloc, from)?, listed(ends, from, to)) {
             (None, None) => true,
@@ -223,10 +223,11 @@ fn agrees(alloc: Global, ends: &[(u32, u32, u64)]) -> Result<bool, NoMemory>
     requires { length ends.now ≤ 262144 }
 {
     let graph = graph_of(alloc, 3, ends)?;
+    let incoming = Incoming::new(alloc, &graph)?;
     Ok(
-        agrees_toward(alloc, &graph, ends, 0)?
-            && agrees_toward(alloc, &graph, ends, 1)?
-            && agrees_toward(alloc, &graph, ends, 2)?,
+        agrees_toward(alloc, &incoming, ends, 0)?
+            && agrees_toward(alloc, &incoming, ends, 1)?
+            && agrees_toward(alloc, &incoming, ends, 2)?,
     )
 }
 
