@@ -2,6 +2,7 @@
 use Rattle.std.proofs.Common.{◌≡◌, ℕ, ◌+◌, ◌^◌, ◌<◌, Bool, List, ◌∷◌, length, get_or, drop, inl, inr, refl, ap, subst, ◌∙◌, arith, add-one}
 use Rattle.std.proofs.Math.Seq.{drop-cons}
 use Rattle.std.proofs.lemmas.List.Sums.{count_by-le-length}
+use Rattle.mn_base.specs.declared.limits.TheConstants.{NODES_MAX}
 use Rattle.routes.specs.declared.graph.Arc.{Arc}
 use Rattle.routes.specs.declared.label.Label.{Label}
 use Rattle.routes.specs.declared.search.Search.{Search}
@@ -56,7 +57,7 @@ module _ {g : GraphView} {s : Search} {last : Label} {row : List ℕ} {i : ℕ} 
   from_below = let from = among.from in let len = at.on.labels_len in omega arith
 
   -- there are no more nodes settled than a graph has
-  few : last.hops < 4096
+  few : last.hops < NODES_MAX
   few =
       let room = pending.room in
       let most = count_by-le-length (λ (b : Bool). b) s.settled.items in

@@ -2,18 +2,19 @@ ghost use Rattle.std.specs.Prelude.{◌≡◌, ◌<◌, ◌≤◌, length, IfOk}
 
 use crate::{Arc, Graph, Incoming, Routes};
 use mn_base::NoMemory;
+use mn_base::limits::{ARCS_MAX, NODES_MAX, PIPE_LATENCY_US_MAX};
 use std::alloc::Global;
 use std::test::Fail;
 
 /// The graph of these arcs (from, to, weight); those whose ends aren't nodes are left out.
 fn graph_of(alloc: Global, nodes: u32, ends: &[(u32, u32, u64)]) -> Result<Graph, NoMemory>
-    requires nodes { nodes ≤ 4096 }
-    requires count { length ends.now ≤ 262144 }
+    requires nodes { nodes ≤ NODES_MAX }
+    requires count { length ends.now ≤ ARCS_MAX }
     ensures { IfOk result (λ g. g.nodes ≡ nodes) }
 {
     let mut arcs = Vec::new(alloc);
     for (from, to, weight) in ends {
-        if *from < nodes && *to < nodes && *weight <= 40_950_000_000 {
+        if *from < nodes && *to < nodes && *weight <= PIPE_LATENCY_US_MAX {
             arcs.push(Arc {
                 from: *from,
                 to: *to,
@@ -220,7 +221,7 @@ fn agrees_toward(
 }
 
 fn agrees(alloc: Global, ends: &[(u32, u32, u64)]) -> Result<bool, NoMemory>
-    requires { length ends.now ≤ 262144 }
+    requires { length ends.now ≤ ARCS_MAX }
 {
     let graph = graph_of(alloc, 3, ends)?;
     let incoming = Incoming::new(alloc, &graph)?;
