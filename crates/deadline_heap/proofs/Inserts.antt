@@ -3,7 +3,7 @@ use Rattle.std.proofs.Common.{◌≡◌, ◌⊎◌, List, Result, Ok, Err, sym, 
 use Rattle.std.specs.Prelude.{◌↔◌, OnOk, OnErr}
 use Rattle.mn_base.specs.Among.{Among}
 use Rattle.mn_base.specs.declared.refusal.NoMemory.{NoMemory}
-use Rattle.deadline_heap.specs.declared.due.Due.{Due}
+use Rattle.mn_base.specs.declared.due.Due.{Due}
 use Rattle.deadline_heap.specs.Canonical.{HasNoneOf, placed}
 use Rattle.deadline_heap.specs.HeapParts.{merged, AreApart}
 use Rattle.deadline_heap.proofs.Orders.{Among-placed}

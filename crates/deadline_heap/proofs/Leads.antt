@@ -2,13 +2,14 @@
 use Rattle.std.proofs.Common.{◌≡◌, ◌≢◌, inl, inr, ℕ, ◌<◌, ◌≤◌, Bool, true, false, List, [], ◌∷◌, Option, Some, None, refl, sym, ap, ◌∙◌, subst, arith}
 use Rattle.std.specs.Prelude.{MatchOption, IfSome, slice_get}
 use Rattle.mn_base.specs.Among.{Among}
-use Rattle.deadline_heap.specs.declared.due.Due.{Due}
-use Rattle.deadline_heap.specs.Canonical.{IsEarlier, IsCanonical}
+use Rattle.mn_base.specs.declared.due.Due.{Due}
+use Rattle.mn_base.specs.Canonical.{Before}
+use Rattle.deadline_heap.specs.Canonical.{IsCanonical}
 use Rattle.deadline_heap.specs.HeapParts.{merged, AreApart, Leads}
 use Rattle.deadline_heap.proofs.Orders.{earlier_trans, earlier_total}
 use Rattle.deadline_heap.proofs.Merging.{Among-merged, canonical-merged, apart_rest-near, apart_rest-far, merged-near-first, merged-far-first}
 
-pub earlier-tick : (x y : Due) → IsEarlier x y → x.tick ≤ y.tick
+pub earlier-tick : (x y : Due) → Before x y → x.tick ≤ y.tick
 earlier-tick x y (inl lower) = omega arith
 earlier-tick x y (inr tie) = omega arith
 
@@ -19,17 +20,17 @@ first_is_least x rest order other (inr later) = earlier-tick x other (order.0 ot
 
 -- the wheel's first leads the whole map
 leads_far : (due : Due) (near far : List Due) → IsCanonical far → Leads (slice_get near 0) (slice_get far 0) true due → (x : Due)
-    → Among x far → IsEarlier due x
+    → Among x far → Before due x
 leads_far due near [] order leads x there = absurd there
 leads_far due near (f ∷ far) order leads x (inl here) = leads.1 x (ap Some here)
 leads_far due near (f ∷ far) order leads x (inr later) = earlier_trans due f x (leads.1 f refl) (order.0 x later)
 
 -- the map's first leads the whole wheel
 leads_near : (due : Due) (near far : List Due) → IsCanonical near → ((x : Due) → Among x near → x.packet ≢ due.packet)
-    → Leads (slice_get near 0) (slice_get far 0) false due → (x : Due) → Among x near → IsEarlier due x
+    → Leads (slice_get near 0) (slice_get far 0) false due → (x : Due) → Among x near → Before due x
 leads_near due [] far order apart leads x there = absurd there
 leads_near due (n ∷ near) far order apart leads x (inl here) =
-    subst (λ (z : Due). IsEarlier due z) here (earlier_total n due (λ same. apart n (inl refl) (sym same)) (leads.1 n refl))
+    subst (λ (z : Due). Before due z) here (earlier_total n due (λ same. apart n (inl refl) (sym same)) (leads.1 n refl))
 leads_near due (n ∷ near) far order apart leads x (inr later) =
     earlier_trans due n x (earlier_total n due (λ same. apart n (inl refl) (sym same)) (leads.1 n refl)) (order.0 x later)
 

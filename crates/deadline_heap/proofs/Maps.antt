@@ -7,10 +7,11 @@ use Rattle.std.specs.Ordering.{nat_cmp, ordering_then, match_ordering}
 use Rattle.std.specs.BTreeMap.{insert_entry}
 use Rattle.std.proofs.lemmas.Cmp.{ranked}
 use Rattle.std.proofs.lemmas.Bool.{cond-true, cond-false, lt-ltb, le-ltb}
-use Rattle.deadline_heap.specs.declared.due.Due.{Due}
-use Rattle.deadline_heap.specs.Canonical.{IsEarlier, is_earlier, HasNoneOf, placed}
+use Rattle.mn_base.specs.declared.due.Due.{Due}
+use Rattle.mn_base.specs.Canonical.{Before, is_before}
+use Rattle.deadline_heap.specs.Canonical.{HasNoneOf, placed}
 use Rattle.deadline_heap.specs.Entries.{entered, HasNoEntry, visit_of_entry, visits_of_entries}
-use Rattle.deadline_heap.proofs.Orders.{is_earlier-from, not_earlier, earlier_once}
+use Rattle.deadline_heap.proofs.Orders.{is_before-from, not_earlier, earlier_once}
 
 -- a new packet is put in front of the first that is greater
 pub insert_entry-slot : (packet hop : ℕ) (es : List (ℕ × ℕ)) → HasNoEntry packet es
@@ -48,25 +49,25 @@ insert_entry-visit key hop (e ∷ es) fresh =
     old : Due
     old = visit_of_entry e
 
-    in_front : IsEarlier new old
-        → new ∷ old ∷ visits_of_entries es ≡ cond (is_earlier new old) (new ∷ old ∷ visits_of_entries es)
+    in_front : Before new old
+        → new ∷ old ∷ visits_of_entries es ≡ cond (is_before new old) (new ∷ old ∷ visits_of_entries es)
         (old ∷ placed new (visits_of_entries es))
-    in_front earlier = sym (cond-true (is_earlier new old) (new ∷ old ∷ visits_of_entries es) (old ∷ placed new (visits_of_entries es))
-        (is_earlier-from new old earlier))
+    in_front earlier = sym (cond-true (is_before new old) (new ∷ old ∷ visits_of_entries es) (old ∷ placed new (visits_of_entries es))
+        (is_before-from new old earlier))
 
-    behind : IsEarlier old new → visits_of_entries (insert_entry key_cmp es key hop) ≡ placed new (visits_of_entries es)
-        → old ∷ visits_of_entries (insert_entry key_cmp es key hop) ≡ cond (is_earlier new old) (new ∷ old ∷ visits_of_entries es)
+    behind : Before old new → visits_of_entries (insert_entry key_cmp es key hop) ≡ placed new (visits_of_entries es)
+        → old ∷ visits_of_entries (insert_entry key_cmp es key hop) ≡ cond (is_before new old) (new ∷ old ∷ visits_of_entries es)
         (old ∷ placed new (visits_of_entries es))
     behind earlier rest =
         ap (λ (l : List Due). old ∷ l) rest
-        ∙ sym (cond-false (is_earlier new old) (new ∷ old ∷ visits_of_entries es) (old ∷ placed new (visits_of_entries es))
+        ∙ sym (cond-false (is_before new old) (new ∷ old ∷ visits_of_entries es) (old ∷ placed new (visits_of_entries es))
         (not_earlier new old (earlier_once old new earlier)))
 
     go : (o p : Ordering) → o ≡ nat_cmp key.0 e.0.0 → p ≡ nat_cmp key.1 e.0.1
         → visits_of_entries (insert_entry key_cmp es key hop) ≡ placed new (visits_of_entries es)
         → visits_of_entries (match_ordering (ordering_then o p) ((key, hop) ∷ e ∷ es) ((e.0, hop) ∷ es)
         (e ∷ insert_entry key_cmp es key hop))
-        ≡ cond (is_earlier new old) (new ∷ old ∷ visits_of_entries es) (old ∷ placed new (visits_of_entries es))
+        ≡ cond (is_before new old) (new ∷ old ∷ visits_of_entries es) (old ∷ placed new (visits_of_entries es))
     go Less p first second rest = in_front (inl (ranked key.0 e.0.0 Less first))
     go Equal Less first second rest = in_front (inr (ranked key.0 e.0.0 Equal first, ranked key.1 e.0.1 Less second))
     go Equal Equal first second rest = absurd (fresh old (inl refl) (sym (ranked key.1 e.0.1 Equal second)))

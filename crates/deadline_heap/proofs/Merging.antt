@@ -2,8 +2,9 @@
 use Rattle.std.proofs.Common.{◌≡◌, ◌⊎◌, inl, inr, ⊎_elim, ℕ, List, [], ◌∷◌, refl, sym, ap, ◌∙◌, subst}
 use Rattle.std.specs.Prelude.{◌↔◌}
 use Rattle.mn_base.specs.Among.{Among}
-use Rattle.deadline_heap.specs.declared.due.Due.{Due}
-use Rattle.deadline_heap.specs.Canonical.{IsEarlier, HasNoneOf, IsCanonical, placed}
+use Rattle.mn_base.specs.declared.due.Due.{Due}
+use Rattle.mn_base.specs.Canonical.{Before}
+use Rattle.deadline_heap.specs.Canonical.{HasNoneOf, IsCanonical, placed}
 use Rattle.deadline_heap.specs.HeapParts.{merged, AreApart}
 use Rattle.deadline_heap.proofs.Orders.{placed-first, placed-past, Among-placed, canonical-placed, same_members, earlier_once}
 
@@ -149,19 +150,19 @@ merged-placed-far due near far fresh parts =
 -- ---- removal
 
 -- the wheel's first comes first where it is earlier than all of the map
-pub merged-near-first : (due : Due) (near far : List Due) → ((x : Due) → Among x far → IsEarlier due x)
+pub merged-near-first : (due : Due) (near far : List Due) → ((x : Due) → Among x far → Before due x)
     → merged (due ∷ near) far ≡ due ∷ merged near far
 merged-near-first due near [] leads = refl
 merged-near-first due near (x ∷ far) leads =
     ap (placed x) (merged-near-first due near far (λ y there. leads y (inr there)))
     ∙ placed-past x (due ∷ []) (merged near far) behind
   where
-    behind : (y : Due) → Among y (due ∷ []) → IsEarlier x y → ⊥
-    behind y (inl is_due) earlier = earlier_once x y earlier (subst (λ (z : Due). IsEarlier z x) is_due (leads x (inl refl)))
+    behind : (y : Due) → Among y (due ∷ []) → Before x y → ⊥
+    behind y (inl is_due) earlier = earlier_once x y earlier (subst (λ (z : Due). Before z x) is_due (leads x (inl refl)))
     behind y (inr none) earlier = none
 
 -- the map's first comes first where it is earlier than all of the wheel
-pub merged-far-first : (due : Due) (near far : List Due) → IsCanonical (due ∷ far) → ((x : Due) → Among x near → IsEarlier due x)
+pub merged-far-first : (due : Due) (near far : List Due) → IsCanonical (due ∷ far) → ((x : Due) → Among x near → Before due x)
     → merged near (due ∷ far) ≡ due ∷ merged near far
 merged-far-first due near far order leads =
     placed-first due (merged near far)

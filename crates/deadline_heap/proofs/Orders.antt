@@ -3,54 +3,55 @@ use Rattle.std.proofs.Common.{◌≡◌, ◌≢◌, ◌⊎◌, inl, inr, ⊎_eli
 use Rattle.std.specs.Prelude.{◌↔◌, nat_lt, ◌==◌, ◌&&◌}
 use Rattle.std.proofs.lemmas.Bool.{or_cases, or_left, or_right, and_parts, and_from, ltb-true, lt-ltb, eqb-true, eq-eqb, cases_order}
 use Rattle.mn_base.specs.Among.{Among}
-use Rattle.deadline_heap.specs.declared.due.Due.{Due}
-use Rattle.deadline_heap.specs.Canonical.{IsEarlier, is_earlier, HasNoneOf, IsCanonical, placed}
+use Rattle.mn_base.specs.declared.due.Due.{Due}
+use Rattle.mn_base.specs.Canonical.{Before, is_before}
+use Rattle.deadline_heap.specs.Canonical.{HasNoneOf, IsCanonical, placed}
 
 -- ---- the order
 
-pub is_earlier-true : (x y : Due) → is_earlier x y ≡ true → IsEarlier x y
-is_earlier-true x y passes = go (or_cases (nat_lt x.tick y.tick) ((x.tick == y.tick) && nat_lt x.packet y.packet) passes)
+pub is_before-true : (x y : Due) → is_before x y ≡ true → Before x y
+is_before-true x y passes = go (or_cases (nat_lt x.tick y.tick) ((x.tick == y.tick) && nat_lt x.packet y.packet) passes)
   where
-    go : (nat_lt x.tick y.tick ≡ true) ⊎ (((x.tick == y.tick) && nat_lt x.packet y.packet) ≡ true) → IsEarlier x y
+    go : (nat_lt x.tick y.tick ≡ true) ⊎ (((x.tick == y.tick) && nat_lt x.packet y.packet) ≡ true) → Before x y
     go (inl lower) = inl (ltb-true x.tick y.tick lower)
     go (inr same) =
         let parts = and_parts (x.tick == y.tick) (nat_lt x.packet y.packet) same in
         inr (eqb-true x.tick y.tick parts.0, ltb-true x.packet y.packet parts.1)
 
-pub is_earlier-from : (x y : Due) → IsEarlier x y → is_earlier x y ≡ true
-is_earlier-from x y (inl lower) = or_left (nat_lt x.tick y.tick) _ (lt-ltb x.tick y.tick lower)
-is_earlier-from x y (inr same) =
+pub is_before-from : (x y : Due) → Before x y → is_before x y ≡ true
+is_before-from x y (inl lower) = or_left (nat_lt x.tick y.tick) _ (lt-ltb x.tick y.tick lower)
+is_before-from x y (inr same) =
     or_right (nat_lt x.tick y.tick) _
     (and_from (x.tick == y.tick) (nat_lt x.packet y.packet) (eq-eqb x.tick y.tick same.0) (lt-ltb x.packet y.packet same.1))
 
-pub is_earlier-false : (x y : Due) → is_earlier x y ≡ false → IsEarlier x y → ⊥
-is_earlier-false x y fails earlier = true≢false (sym (is_earlier-from x y earlier) ∙ fails)
+pub is_before-false : (x y : Due) → is_before x y ≡ false → Before x y → ⊥
+is_before-false x y fails earlier = true≢false (sym (is_before-from x y earlier) ∙ fails)
 
-pub not_earlier : (x y : Due) → (IsEarlier x y → ⊥) → is_earlier x y ≡ false
-not_earlier x y not_so = go (is_earlier x y) refl
+pub not_earlier : (x y : Due) → (Before x y → ⊥) → is_before x y ≡ false
+not_earlier x y not_so = go (is_before x y) refl
   where
-    go : (b : Bool) → is_earlier x y ≡ b → b ≡ false
-    go true passes = absurd (not_so (is_earlier-true x y passes))
+    go : (b : Bool) → is_before x y ≡ b → b ≡ false
+    go true passes = absurd (not_so (is_before-true x y passes))
     go false fails = refl
 
-pub earlier_trans : (x y z : Due) → IsEarlier x y → IsEarlier y z → IsEarlier x z
+pub earlier_trans : (x y z : Due) → Before x y → Before y z → Before x z
 earlier_trans x y z (inl a) (inl b) = inl (omega arith)
 earlier_trans x y z (inl a) (inr b) = inl (omega arith)
 earlier_trans x y z (inr a) (inl b) = inl (omega arith)
 earlier_trans x y z (inr a) (inr b) = inr (omega arith, omega arith)
 
-pub earlier_once : (x y : Due) → IsEarlier x y → IsEarlier y x → ⊥
+pub earlier_once : (x y : Due) → Before x y → Before y x → ⊥
 earlier_once x y (inl a) (inl b) = omega arith
 earlier_once x y (inl a) (inr b) = omega arith
 earlier_once x y (inr a) (inl b) = omega arith
 earlier_once x y (inr a) (inr b) = omega arith
 
 -- of two visits of different packets one is earlier
-pub earlier_total : (x y : Due) → y.packet ≢ x.packet → (IsEarlier x y → ⊥) → IsEarlier y x
+pub earlier_total : (x y : Due) → y.packet ≢ x.packet → (Before x y → ⊥) → Before y x
 earlier_total x y differ not_so = go (cases_order x.tick y.tick) (cases_order x.packet y.packet)
   where
     go : (x.tick ≡ y.tick) ⊎ ((x.tick < y.tick) ⊎ (y.tick < x.tick))
-        → (x.packet ≡ y.packet) ⊎ ((x.packet < y.packet) ⊎ (y.packet < x.packet)) → IsEarlier y x
+        → (x.packet ≡ y.packet) ⊎ ((x.packet < y.packet) ⊎ (y.packet < x.packet)) → Before y x
     go (inl tie) (inl same) = absurd (differ (sym same))
     go (inl tie) (inr (inl lower)) = absurd (not_so (inr (tie, lower)))
     go (inl tie) (inr (inr above)) = inr (sym tie, above)
@@ -60,12 +61,12 @@ earlier_total x y differ not_so = go (cases_order x.tick y.tick) (cases_order x.
 -- ---- one more visit in its place
 
 -- it comes first where it is earlier than all
-pub placed-first : (due : Due) (xs : List Due) → ((x : Due) → Among x xs → IsEarlier due x) → placed due xs ≡ due ∷ xs
+pub placed-first : (due : Due) (xs : List Due) → ((x : Due) → Among x xs → Before due x) → placed due xs ≡ due ∷ xs
 placed-first due [] leads = refl
-placed-first due (x ∷ xs) leads = ap (λ (b : Bool). cond b (due ∷ x ∷ xs) (x ∷ placed due xs)) (is_earlier-from due x (leads x (inl refl)))
+placed-first due (x ∷ xs) leads = ap (λ (b : Bool). cond b (due ∷ x ∷ xs) (x ∷ placed due xs)) (is_before-from due x (leads x (inl refl)))
 
 -- it is put behind a front that it isn't earlier than
-pub placed-past : (due : Due) (front rest : List Due) → ((x : Due) → Among x front → IsEarlier due x → ⊥)
+pub placed-past : (due : Due) (front rest : List Due) → ((x : Due) → Among x front → Before due x → ⊥)
     → placed due (front ++ rest) ≡ front ++ placed due rest
 placed-past due [] rest behind = refl
 placed-past due (x ∷ front) rest behind =
@@ -74,7 +75,7 @@ placed-past due (x ∷ front) rest behind =
 
 pub Among-placed : (other due : Due) (xs : List Due) → Among other (placed due xs) ↔ ((due ≡ other) ⊎ Among other xs)
 Among-placed other due [] = (λ a. a, λ a. a)
-Among-placed other due (x ∷ xs) = go (is_earlier due x) (Among-placed other due xs)
+Among-placed other due (x ∷ xs) = go (is_before due x) (Among-placed other due xs)
   where
     go : (b : Bool) → Among other (placed due xs) ↔ ((due ≡ other) ⊎ Among other xs)
         → Among other (cond b (due ∷ x ∷ xs) (x ∷ placed due xs)) ↔ ((due ≡ other) ⊎ ((x ≡ other) ⊎ Among other xs))
@@ -93,20 +94,20 @@ Among-placed other due (x ∷ xs) = go (is_earlier due x) (Among-placed other du
 -- the order is kept
 pub canonical-placed : (due : Due) (xs : List Due) → HasNoneOf due.packet xs → IsCanonical xs → IsCanonical (placed due xs)
 canonical-placed due [] fresh order = (λ x there. absurd there, λ x there. absurd there, tt)
-canonical-placed due (x ∷ xs) fresh order = go (is_earlier due x) refl (canonical-placed due xs (λ y there. fresh y (inr there)) order.2)
+canonical-placed due (x ∷ xs) fresh order = go (is_before due x) refl (canonical-placed due xs (λ y there. fresh y (inr there)) order.2)
   where
-    go : (b : Bool) → is_earlier due x ≡ b → IsCanonical (placed due xs) → IsCanonical (cond b (due ∷ x ∷ xs) (x ∷ placed due xs))
+    go : (b : Bool) → is_before due x ≡ b → IsCanonical (placed due xs) → IsCanonical (cond b (due ∷ x ∷ xs) (x ∷ placed due xs))
     go true passes rest = (leads, fresh, order)
       where
-        leads : (y : Due) → (x ≡ y) ⊎ Among y xs → IsEarlier due y
-        leads y (inl here) = subst (λ (z : Due). IsEarlier due z) here (is_earlier-true due x passes)
-        leads y (inr later) = earlier_trans due x y (is_earlier-true due x passes) (order.0 y later)
+        leads : (y : Due) → (x ≡ y) ⊎ Among y xs → Before due y
+        leads y (inl here) = subst (λ (z : Due). Before due z) here (is_before-true due x passes)
+        leads y (inr later) = earlier_trans due x y (is_before-true due x passes) (order.0 y later)
     go false fails rest = (leads, alone, rest)
       where
-        leads : (y : Due) → Among y (placed due xs) → IsEarlier x y
+        leads : (y : Due) → Among y (placed due xs) → Before x y
         leads y there =
             ⊎_elim
-            (λ new. subst (λ (z : Due). IsEarlier x z) new (earlier_total due x (fresh x (inl refl)) (is_earlier-false due x fails)))
+            (λ new. subst (λ (z : Due). Before x z) new (earlier_total due x (fresh x (inl refl)) (is_before-false due x fails)))
             (λ old. order.0 y old)
             ((Among-placed y due xs).0 there)
 
@@ -129,7 +130,7 @@ same_first x y xs ys p q (inr later) (inr other) = absurd (earlier_once x y (p.0
 rest_member : (x y z : Due) (xs ys : List Due) → IsCanonical (x ∷ xs) → x ≡ y → Among z xs → Among z (y ∷ ys) → Among z ys
 rest_member x y z xs ys p same there (inl first) =
     let is_x : z ≡ x = sym first ∙ sym same in
-    let itself : IsEarlier x x = subst (λ (w : Due). IsEarlier x w) is_x (p.0 z there) in
+    let itself : Before x x = subst (λ (w : Due). Before x w) is_x (p.0 z there) in
     absurd (earlier_once x x itself itself)
 rest_member x y z xs ys p same there (inr later) = later
 

@@ -4,7 +4,7 @@ use Rattle.std.specs.Prelude.{slice_index_or}
 use Rattle.std.proofs.lemmas.Bool.{cases_lt, cases_eq}
 use Rattle.mn_base.specs.Among.{Among}
 use Rattle.mn_base.proofs.Members.{Among-append, Among-append-left, Among-append-right, Among-map, Among-from-map}
-use Rattle.deadline_heap.specs.declared.due.Due.{Due}
+use Rattle.mn_base.specs.declared.due.Due.{Due}
 use Rattle.deadline_heap.specs.declared.wheel.TheConstants.{SLOTS}
 use Rattle.deadline_heap.specs.Bits.{bit_of, ring_bit, IsClear, IsFirstSet}
 use Rattle.deadline_heap.specs.Entries.{at_tick}

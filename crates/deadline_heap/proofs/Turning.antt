@@ -8,10 +8,11 @@ use Rattle.std.proofs.lemmas.Nat.Bits.{bit_at-zero}
 use Rattle.std.proofs.lemmas.List.{get_or-set_same, get_or-set_other, get_or_default}
 use Rattle.mn_base.specs.Among.{Among}
 use Rattle.mn_base.proofs.Members.{Among-from-map}
-use Rattle.deadline_heap.specs.declared.due.Due.{Due}
+use Rattle.mn_base.specs.declared.due.Due.{Due}
 use Rattle.deadline_heap.specs.declared.wheel.TheConstants.{SLOTS}
 use Rattle.deadline_heap.specs.Bits.{bit_of, ring_bit, IsFirstSet}
-use Rattle.deadline_heap.specs.Canonical.{IsEarlier, is_earlier, HasNoneOf, placed}
+use Rattle.mn_base.specs.Canonical.{Before, is_before}
+use Rattle.deadline_heap.specs.Canonical.{HasNoneOf, placed}
 use Rattle.deadline_heap.specs.Entries.{at_tick, entered, HasNoEntry}
 use Rattle.deadline_heap.specs.WheelView.{slot_of, visits_from, IsAhead, IsWheel}
 use Rattle.deadline_heap.proofs.Orders.{placed-first, placed-past, Among-placed, earlier_once}
@@ -129,7 +130,7 @@ placed_in_slot tick entry (e ∷ es) rest later = go (nat_lt entry.0 e.0) refl (
     old = at_tick tick e
 
     -- ties are decided by packet
-    by_packet : (b : Bool) → nat_lt entry.0 e.0 ≡ b → is_earlier new old ≡ b
+    by_packet : (b : Bool) → nat_lt entry.0 e.0 ≡ b → is_before new old ≡ b
     by_packet b is =
         let no_less : tick ≤ tick = omega arith in
         ap (λ (l : Bool). l || ((tick == tick) && nat_lt entry.0 e.0)) (le-ltb tick tick no_less)
@@ -198,7 +199,7 @@ visits_from-placed slots after tick (suc count) due from to here others = go (ca
         ∙ sym (placed-past due (map (at_tick tick) (slot_of slots tick)) (visits_from slots (tick + 1) count) not_before)
         ∙ ap (placed due) (sym (visits_from-suc slots tick count))
       where
-        not_before : (x : Due) → Among x (map (at_tick tick) (slot_of slots tick)) → IsEarlier due x → ⊥
+        not_before : (x : Due) → Among x (map (at_tick tick) (slot_of slots tick)) → Before due x → ⊥
         not_before x there earlier =
             let found = Among-from-map (at_tick tick) x (slot_of slots tick) there in
             let at : tick ≡ x.tick = ap (λ (d : Due). d.tick) found.2 in

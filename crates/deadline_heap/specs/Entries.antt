@@ -1,7 +1,7 @@
 -- The entries of the ordered maps as visits: those of one slot by packet, those outside of the wheel by tick and packet.
 use Rattle.std.specs.Prelude.{◌≢◌, ℕ, nat_lt, List, [], ◌∷◌, map, if◌then◌else◌}
 use Rattle.mn_base.specs.Among.{Among}
-use Rattle.deadline_heap.specs.declared.due.Due.{Due}
+use Rattle.mn_base.specs.declared.due.Due.{Due}
 
 -- an entry of a slot, (packet, hop), as a visit at the slot's tick
 abbrev pub at_tick : ℕ → (ℕ × ℕ) → Due

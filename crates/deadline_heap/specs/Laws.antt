@@ -1,7 +1,7 @@
 -- The statements of the laws.
 use Rattle.std.specs.Prelude.{◌≡◌, ◌↔◌, List}
 use Rattle.mn_base.specs.Among.{Among}
-use Rattle.deadline_heap.specs.declared.due.Due.{Due}
+use Rattle.mn_base.specs.declared.due.Due.{Due}
 use Rattle.deadline_heap.specs.Canonical.{IsCanonical}
 
 -- two lists in canonical order with the same members are one list

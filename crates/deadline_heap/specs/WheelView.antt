@@ -1,7 +1,7 @@
 -- What contracts see of the wheel: its base, and its visits in canonical order.
 use Rattle.std.specs.Prelude.{◌≡◌, ℕ, zero, suc, ◌+◌, ◌^◌, ◌<◌, ◌≤◌, ◌%◌, List, [], ◌++◌, length, map, slice_index_or}
 use Rattle.mn_base.specs.Among.{Among}
-use Rattle.deadline_heap.specs.declared.due.Due.{Due}
+use Rattle.mn_base.specs.declared.due.Due.{Due}
 use Rattle.deadline_heap.specs.declared.wheel.TheConstants.{SLOTS}
 use Rattle.deadline_heap.specs.Bits.{bit_of}
 use Rattle.deadline_heap.specs.Entries.{at_tick}

@@ -1,13 +1,13 @@
 ghost use Rattle.std.specs.Prelude.{◌≡◌, ◌≢◌, ◌⊎◌, ◌∷◌, ◌<◌, ◌≤◌, ◌↔◌, [], IfOk, IfSome, IfNone, MatchOption, OnOk, OnErr, option_map, slice_get};
 ghost use Rattle.mn_base.specs.Among.{Among};
-ghost use Rattle.deadline_heap.specs.declared.due.Due.{Due};
-ghost use Rattle.deadline_heap.specs.Canonical.{placed, HasNoneOf, IsCanonical, IsEarlier};
+ghost use Rattle.mn_base.specs.declared.due.Due.{Due};
+ghost use Rattle.mn_base.specs.Canonical.{Before};
+ghost use Rattle.deadline_heap.specs.Canonical.{placed, HasNoneOf, IsCanonical};
 ghost use Rattle.deadline_heap.specs.HeapParts.{LeadsBoth};
 
-use crate::due::Due;
 use crate::later::Later;
 use crate::wheel::Wheel;
-use mn_base::NoMemory;
+use mn_base::{Due, NoMemory};
 use std::alloc::Global;
 use std::marker::Model;
 
@@ -21,7 +21,7 @@ pub struct Heap {
 
 impl Model for Heap {
     ghost use Rattle.std.specs.Prelude.{List};
-    ghost use Rattle.deadline_heap.specs.declared.due.Due.{Due};
+    ghost use Rattle.mn_base.specs.declared.due.Due.{Due};
     ghost use Rattle.deadline_heap.specs.HeapParts.{merged, AreApart};
 
     ghost Value = { List Due };

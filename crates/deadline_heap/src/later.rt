@@ -1,8 +1,7 @@
 ghost use Rattle.std.specs.Prelude.{◌≡◌, ◌∷◌, [], MatchOption, OnOk, OnErr, slice_get};
 ghost use Rattle.deadline_heap.specs.Canonical.{placed, HasNoneOf};
 
-use crate::due::Due;
-use mn_base::NoMemory;
+use mn_base::{Due, NoMemory};
 use std::alloc::Global;
 use std::collections::BTreeMap;
 use std::marker::Model;
@@ -15,7 +14,7 @@ pub(crate) struct Later {
 
 impl Model for Later {
     ghost use Rattle.std.specs.Prelude.{List};
-    ghost use Rattle.deadline_heap.specs.declared.due.Due.{Due};
+    ghost use Rattle.mn_base.specs.declared.due.Due.{Due};
 
     ghost Value = { List Due };
 

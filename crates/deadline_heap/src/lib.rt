@@ -3,7 +3,6 @@
 //! Its contracts speak in one list in canonical order (specs/Canonical.antt) and in no slot of the wheel.
 #![tactic(auto)]
 
-mod due;
 mod heap;
 mod later;
 pub mod laws;
@@ -11,8 +10,8 @@ mod marks;
 mod slot;
 mod wheel;
 
-pub use due::Due;
 pub use heap::Heap;
+pub use mn_base::Due;
 
 #[cfg(test)]
 mod tests;

@@ -1,14 +1,13 @@
 ghost use Rattle.std.specs.Prelude.{◌≡◌, ◌∷◌, ◌+◌, ◌<◌, ◌≤◌, ◌%◌, ◌↔◌, [], length, ℕ, slice_index_or, IsTrue, IfOk, MatchOption, OnOk, OnErr, slice_get};
 ghost use Rattle.deadline_heap.specs.Bits.{IsClear, IsFirstSet, ring_bit};
 ghost use Rattle.mn_base.specs.Among.{Among};
-ghost use Rattle.deadline_heap.specs.declared.due.Due.{Due};
+ghost use Rattle.mn_base.specs.declared.due.Due.{Due};
 ghost use Rattle.deadline_heap.specs.Canonical.{placed, HasNoneOf};
 ghost use Rattle.deadline_heap.specs.WheelView.{IsAhead};
 
-use crate::due::Due;
 use crate::marks::{WORDS, first_mark, set_mark, unmark};
 use crate::slot::Slot;
-use mn_base::NoMemory;
+use mn_base::{Due, NoMemory};
 use std::alloc::Global;
 use std::marker::Model;
 

@@ -1,4 +1,5 @@
 pub mod Among
+pub mod Canonical
 pub mod Causes
 pub mod Decimal
 pub mod Laws

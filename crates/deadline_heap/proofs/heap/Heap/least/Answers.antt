@@ -1,7 +1,7 @@
 use Rattle.std.proofs.Common.{sym, ap, ◌∙◌, subst, List, ◌≤◌}
 use Rattle.std.specs.Prelude.{slice_get, option_map}
 use Rattle.mn_base.specs.Among.{Among}
-use Rattle.deadline_heap.specs.declared.due.Due.{Due}
+use Rattle.mn_base.specs.declared.due.Due.{Due}
 use Rattle.deadline_heap.specs.Canonical.{IsCanonical}
 use Rattle.deadline_heap.proofs.Merging.{canonical-merged}
 use Rattle.deadline_heap.proofs.Leads.{lead_is_least, first-merged, none-merged, leads_at}

@@ -1,7 +1,7 @@
 use Rattle.std.proofs.Common.{◌≡◌, ◌<◌, ◌≤◌, ◌∷◌, sym, ◌∙◌, subst, refl, Bool, List}
 use Rattle.std.specs.Prelude.{IfSome, slice_get}
 use Rattle.mn_base.specs.Among.{Among}
-use Rattle.deadline_heap.specs.declared.due.Due.{Due}
+use Rattle.mn_base.specs.declared.due.Due.{Due}
 use Rattle.deadline_heap.specs.Canonical.{IsCanonical}
 use Rattle.deadline_heap.specs.HeapParts.{merged, Leads, AreApart}
 use Rattle.deadline_heap.proofs.Merging.{canonical-merged}

@@ -1,6 +1,6 @@
 use Rattle.std.proofs.Common.{sym, ap, ◌∙◌, arith, List}
 use Rattle.std.specs.Prelude.{slice_get}
-use Rattle.deadline_heap.specs.declared.due.Due.{Due}
+use Rattle.mn_base.specs.declared.due.Due.{Due}
 use Rattle.deadline_heap.specs.WheelView.{WheelView}
 use Rattle.deadline_heap.proofs.Ring.{no_visit, tick_fits}
 use Rattle.deadline_heap.proofs.Turning.{slot_at, first_is, slot_has_first}

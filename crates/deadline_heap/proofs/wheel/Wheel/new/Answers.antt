@@ -1,5 +1,5 @@
 use Rattle.std.proofs.Common.{refl, ap, List}
-use Rattle.deadline_heap.specs.declared.due.Due.{Due}
+use Rattle.mn_base.specs.declared.due.Due.{Due}
 use Rattle.deadline_heap.specs.WheelView.{WheelView}
 use Rattle.deadline_heap.proofs.Turning.{IsWheel-empty, no_visits}
 use Rattle.deadline_heap.proofs.wheel.Wheel.new.Goals as goal
