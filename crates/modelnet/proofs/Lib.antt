@@ -1,8 +1,12 @@
 pub mod AsTheyStand
 pub mod ChainSetup
+pub mod ChainSteps
 pub mod Chains
 pub mod Exact
+pub mod OneAfterAnother
+pub mod OneRun
 pub mod Outputs
 pub mod PipeFields
 pub mod PipeLists
+pub mod Sound
 pub mod Texts

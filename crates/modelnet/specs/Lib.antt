@@ -1,5 +1,6 @@
 pub mod Answers
 pub mod Chain
+pub mod Commands
 pub mod Ends
 pub mod Exact
 pub mod Forms
@@ -9,5 +10,7 @@ pub mod PipeWord
 pub mod Roles
 pub mod Run
 pub mod StatusTexts
+pub mod Statuses
 pub mod Steps
+pub mod TheCommands
 pub mod Words

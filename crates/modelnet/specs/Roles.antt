@@ -2,11 +2,27 @@
 use Rattle.std.specs.Prelude.{◌≡◌, ◌⊎◌, ◌<◌, ◌≤◌, ℕ, true, false, List, ◌++◌, length, Some, Result, Ok, Err}
 use Rattle.std.specs.Io.KnownBytes.{prepend_known, append_known, IsAtEnd}
 use Rattle.mn_base.specs.Causes.{Rose}
-use Rattle.mn_edge.specs.declared.host.WriteFault.{WriteFault}
-use Rattle.mn_edge.specs.declared.whole.ReadEnd.{ReadEnd}
-use Rattle.mn_edge.specs.declared.whole.ReadEnd.TheVariants.{Fault, TooLarge}
-use Rattle.mn_edge.specs.declared.whole.ReadEnd.TheVariants as end
+use Rattle.mn_edge.specs.declared.role.Role.{Role}
 use Rattle.mn_edge.specs.Part.{Part, one_more}
+use Rattle.modelnet.specs.declared.status.Status.{Status}
+use Rattle.modelnet.specs.declared.status.Status.TheVariants.{NoMemory, ReadFault, WriteFault, TooLarge}
+
+-- a role that a command reads: its name, and the most bytes that are read of it
+pub record Input : Type 0 where
+  pub role : Role
+  pub name : List ℕ
+  pub limit : ℕ
+
+-- a role that a command writes, and its name
+pub record Output : Type 0 where
+  pub role : Role
+  pub name : List ℕ
+
+abbrev pub input : Role → List ℕ → ℕ → Input
+input role name limit = record { role = role; name = name; limit = limit }
+
+abbrev pub output : Role → List ℕ → Output
+output role name = record { role = role; name = name }
 
 -- nothing but the count of faults changed
 pub record IsUntouched (old new : Part) : Type 0 where
@@ -67,14 +83,28 @@ pub record StopsWriting (name text : List ℕ) (old new : Part) : Type 0 where
   pub split : text ≡ front ++ rest
   pub stands : IsUntouched old new ⊎ IsWriting name front old new
 
--- a whole input role, by the answer
-abbrev pub ReadsRole : List ℕ → ℕ → Part → Part → Result (List ℕ) ReadEnd → Type 0
-ReadsRole name limit old new (Ok bytes) = WasRead name bytes old new × (length bytes ≤ limit)
-ReadsRole name limit old new (Err end.NoMemory) = StopsReading name limit old new
-ReadsRole name limit old new (Err Fault) = StopsReading name limit old new × Rose old.faults new.faults
-ReadsRole name limit old new (Err TooLarge) = ReadsTooMany name limit old new
+-- reading stopped at a call that failed
+abbrev pub IsReadFault : Input → Part → Part → Type 0
+IsReadFault at old new = StopsReading at.name at.limit old new × Rose old.faults new.faults
 
--- a whole output role, by the answer
-abbrev pub WritesRole : List ℕ → List ℕ → Part → Part → Result (Unit {0}) WriteFault → Type 0
-WritesRole name text old new (Ok _) = WasWritten name text old new
-WritesRole name text old new (Err _) = StopsWriting name text old new × Rose old.faults new.faults
+-- more bytes than the limit came
+abbrev pub IsTooLarge : Input → Part → Part → Type 0
+IsTooLarge at old new = ReadsTooMany at.name at.limit old new
+
+-- writing stopped at a call that failed, after a front of these bytes
+abbrev pub IsWriteFault : Output → List ℕ → Part → Part → Type 0
+IsWriteFault at bytes old new = StopsWriting at.name bytes old new × Rose old.faults new.faults
+
+-- a whole input, by the answer
+abbrev pub ReadsInput : Input → Part → Part → Result (List ℕ) Status → Type 0
+ReadsInput at old new (Ok bytes) = WasRead at.name bytes old new × (length bytes ≤ at.limit)
+ReadsInput at old new (Err NoMemory) = StopsReading at.name at.limit old new
+ReadsInput at old new (Err (ReadFault role)) = (role ≡ at.role) × IsReadFault at old new
+ReadsInput at old new (Err (TooLarge role)) = (role ≡ at.role) × IsTooLarge at old new
+ReadsInput at old new (Err answer) = ⊥
+
+-- a whole output of these bytes, by the answer
+abbrev pub WritesOutput : Output → List ℕ → Part → Part → Result (Unit {0}) Status → Type 0
+WritesOutput at bytes old new (Ok _) = WasWritten at.name bytes old new
+WritesOutput at bytes old new (Err (WriteFault role)) = (role ≡ at.role) × IsWriteFault at bytes old new
+WritesOutput at bytes old new (Err answer) = ⊥

@@ -47,14 +47,16 @@ chain_of words = do
   options ← ok_or (parted words) Form
   valued options
 
--- what a command line asks for, or its first fault
-unfoldable pub ordered : List (List ℕ) → Result ChainView WordsFault
-ordered [] = Err Command
-ordered (command ∷ words) = if bytes_eq command (codes "chain") then chain_of words else Err Command
+-- the same as an order
+unfoldable pub chain_order : List (List ℕ) → Result Order WordsFault
+chain_order words = do
+  order ← chain_of words
+  Ok (Chain order)
 
--- what contracts see of an order
-abbrev pub view_of : Order → ChainView
-view_of (Chain order) = order
+-- what a command line asks for, or its first fault
+unfoldable pub ordered : List (List ℕ) → Result Order WordsFault
+ordered [] = Err Command
+ordered (command ∷ words) = if bytes_eq command (codes "chain") then chain_order words else Err Command
 
 -- the bytes of the words
 abbrev pub texts : List (Bor (List ℕ)) → List (List ℕ)

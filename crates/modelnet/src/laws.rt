@@ -1,9 +1,20 @@
 //! Facts about the definitions that contracts cite. These functions compute nothing.
 
+ghost use Rattle.modelnet.specs.Answers.{EachCommandIsSound, WordsAndBytesHaveOneOutcome};
 ghost use Rattle.modelnet.specs.Forms.{WordsArePartedAsTheyStand};
 
-/// The words behind `chain` are parted exactly where they are the words of three options, of two that may be left out, and of
+/// The words after `chain` are parted if and only if they are the words of three options, of two that may be left out, and of
 /// PIPEs, and then into these.
 pub fn words_are_parted_as_they_stand()
     ensures { WordsArePartedAsTheyStand }
+{}
+
+/// Of each command: bytes are refused by one answer at most, what is refused isn't written, and there is one output at most.
+pub fn each_command_is_sound()
+    ensures { EachCommandIsSound }
+{}
+
+/// The same words and the same bytes of the inputs have the same bytes of the outputs, of each role that is written.
+pub fn words_and_bytes_have_one_outcome()
+    ensures { WordsAndBytesHaveOneOutcome }
 {}

@@ -1,14 +1,16 @@
 //! The emulator's commands over a host, and the program.
 //! It stands on all crates below it; its files are the words, the roles of a host, the run and its texts.
-//! Its contract, on `plain`, speaks of `Answers` (specs/Answers.antt): for each answer all that stands after it.
+//! Its contract, on `plain`, speaks of `Answers` and `IsExact` (specs/Answers.antt): what stands after each answer, and which one it is.
 #![tactic(auto)]
 
 ghost use Rattle.std.specs.Prelude.{◌≡◌, false};
 ghost use Rattle.std.specs.Process.{exit_status};
 ghost use Rattle.mn_edge.specs.declared.role.Role.{Role};
-ghost use Rattle.modelnet.specs.Ends.{IsEnding, status_number};
+ghost use Rattle.modelnet.specs.Ends.{IsEnding};
+ghost use Rattle.modelnet.specs.Statuses.{status_number};
 ghost use Rattle.modelnet.specs.Words.{texts};
 
+mod chain;
 mod chain_setup;
 mod command_line;
 mod cursor;
@@ -16,6 +18,7 @@ mod laws;
 mod order;
 mod pipe_word;
 mod plain;
+mod read_limits;
 mod roles;
 mod run;
 mod status;

@@ -10,6 +10,7 @@ use crate::chain_setup::chain_setup;
 use crate::order::ChainOrder;
 use journal::laws::outputs_fit;
 use journal::{fates, journal};
+use mn_base::limits::TRACE_BYTES_MAX;
 use mn_base::{Bytes, NoMemory, Refusal};
 use pcap_io::{Packet, PcapFault, Trace, read_pcap};
 use report::{out_trace, print_report};
@@ -32,7 +33,7 @@ pub fn chain_texts(
     text: &[u8],
 ) -> Result<Texts, Refusal<PcapFault>>
     requires order { IsOrder order.now }
-    requires few { length text.now ≤ 268435456 }
+    requires few { length text.now ≤ TRACE_BYTES_MAX }
     ensures run { IfOk result (λ texts. SaysRun order.now text.now (pcap_text texts.out) texts.report) }
     ensures fault { IfErr result (λ refusal. IfFault refusal (PcapFirst text.now)) }
 {

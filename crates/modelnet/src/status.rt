@@ -1,7 +1,8 @@
 ghost use Rattle.std.specs.Prelude.{◌≡◌};
-ghost use Rattle.modelnet.specs.Ends.{status_number};
+ghost use Rattle.modelnet.specs.Statuses.{status_number};
 
 use crate::words_fault::WordsFault;
+use mn_base::Refusal;
 use mn_edge::Role;
 use pcap_io::PcapFault;
 
@@ -12,9 +13,9 @@ pub enum Status {
     Done,
     /// Memory was refused; nothing was written.
     NoMemory,
-    /// The words are no order.
+    /// The command line is invalid.
     BadWords(WordsFault),
-    /// The trace is no pcap text; this is its first fault.
+    /// The trace is no pcap file; this is its first fault.
     BadTrace(PcapFault),
     /// A call of the host on this input role failed.
     ReadFault(Role),
@@ -22,6 +23,20 @@ pub enum Status {
     WriteFault(Role),
     /// More bytes of this role came than its limit.
     TooLarge(Role),
+}
+
+impl From<Refusal<PcapFault>> for Status {
+    ghost use Rattle.std.specs.Prelude.{◌≡◌};
+    ghost use Rattle.modelnet.specs.Statuses.{trace_refusal};
+
+    ghost from_gives = { λ refusal status. status ≡ trace_refusal refusal };
+
+    fn from(refusal: Refusal<PcapFault>) -> Status {
+        match refusal {
+            Refusal::NoMemory => Status::NoMemory,
+            Refusal::Fault(fault) => Status::BadTrace(fault),
+        }
+    }
 }
 
 impl Status {

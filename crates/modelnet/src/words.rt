@@ -3,7 +3,8 @@ ghost use Rattle.mn_base.specs.Refused.{IfFault};
 ghost use Rattle.modelnet.specs.Order.{IsOrder, IsPipeSpec};
 ghost use Rattle.modelnet.specs.Parted.{parted};
 ghost use Rattle.modelnet.specs.PipeWord.{chain_pipes};
-ghost use Rattle.modelnet.specs.Words.{ordered, seed_of, tick_of, texts, valued, view_of};
+ghost use Rattle.modelnet.specs.TheCommands.{IsInRange};
+ghost use Rattle.modelnet.specs.Words.{chain_of, ordered, seed_of, tick_of, texts, valued};
 
 use crate::cursor::Rest;
 use crate::order::{ChainOrder, FileName, Order, PipeSpec};
@@ -25,10 +26,10 @@ use std::marker::Model;
 /// `Command` where there is no word or the first isn't a command; `Form` where the words behind it aren't such options and
 /// then PIPEs, none of which begins with `--`; `Value` of the seed, else of the tick length, else of the PIPEs, where it is
 /// out of its range.
-#[tactic(auto, unfolding(crate::specs::Words::ordered, crate::specs::Words::chain_of))]
+#[tactic(auto, unfolding(crate::specs::Words::ordered, crate::specs::Words::chain_order))]
 pub fn read_words(alloc: Global, words: &[&str]) -> Result<Order, Refusal<WordsFault>>
-    ensures order { IfOk result (λ order. ordered (texts words.now) ≡ Ok (view_of order)) }
-    ensures ranges { IfOk result (λ order. IsOrder (view_of order)) }
+    ensures order { IfOk result (λ order. ordered (texts words.now) ≡ Ok order) }
+    ensures ranges { IfOk result IsInRange }
     ensures fault { IfErr result (λ e. IfFault e (λ fault. ordered (texts words.now) ≡ Err fault)) }
 {
     let mut rest = Rest::of(words);
@@ -38,7 +39,18 @@ pub fn read_words(alloc: Global, words: &[&str]) -> Result<Order, Refusal<WordsF
     if command != "chain" {
         return Err(Refusal::Fault(WordsFault::Command));
     }
-    let Some(options) = parted(rest) else {
+    let order = chain_of(alloc, rest)?;
+    Ok(Order::Chain(order))
+}
+
+/// What the words behind `chain` ask for.
+#[tactic(auto, unfolding(crate::specs::Words::chain_of))]
+fn chain_of(alloc: Global, words: Rest) -> Result<ChainOrder, Refusal<WordsFault>>
+    ensures order { IfOk result (λ order. chain_of words.entry ≡ Ok order) }
+    ensures ranges { IfOk result IsOrder }
+    ensures fault { IfErr result (λ e. IfFault e (λ fault. chain_of words.entry ≡ Err fault)) }
+{
+    let Some(options) = parted(words) else {
         return Err(Refusal::Fault(WordsFault::Form));
     };
     valued(alloc, options)
@@ -96,10 +108,10 @@ fn parted<'a, 'w>(mut words: Rest<'a, 'w>) -> Option<ChainWords<'a, 'w>>
 }
 
 #[tactic(auto, unfolding(crate::specs::Words::valued))]
-fn valued(alloc: Global, options: ChainWords) -> Result<Order, Refusal<WordsFault>>
+fn valued(alloc: Global, options: ChainWords) -> Result<ChainOrder, Refusal<WordsFault>>
     requires { 1 ≤ length options.pipes }
-    ensures order { IfOk result (λ order. valued options.entry ≡ Ok (view_of order)) }
-    ensures ranges { IfOk result (λ order. IsOrder (view_of order)) }
+    ensures order { IfOk result (λ order. valued options.entry ≡ Ok order) }
+    ensures ranges { IfOk result IsOrder }
     ensures fault { IfErr result (λ e. IfFault e (λ fault. valued options.entry ≡ Err fault)) }
 {
     let Some(seed) = seed_of(options.seed) else {
@@ -112,14 +124,14 @@ fn valued(alloc: Global, options: ChainWords) -> Result<Order, Refusal<WordsFaul
     let out = FileName::copy(alloc, options.out)?;
     let report = FileName::copy(alloc, options.report)?;
     let pipes = chain_pipes(alloc, options.pipes)?;
-    Ok(Order::Chain(ChainOrder {
+    Ok(ChainOrder {
         trace,
         out,
         report,
         tick_ns,
         seed,
         pipes,
-    }))
+    })
 }
 
 fn seed_of(text: Option<&str>) -> Option<u64>

@@ -1,0 +1,5 @@
+/// The most bytes that are read of each role.
+#[derive(Clone, Copy)]
+pub struct ReadLimits {
+    pub trace: usize,
+}
