@@ -10,14 +10,14 @@ use Rattle.mn_base.specs.declared.params.PipeParams.{PipeParams}
 use Rattle.mn_base.specs.Units.{latency_in_ticks}
 use Rattle.mn_base.specs.Times.{base_of}
 use Rattle.pcap_io.specs.declared.packet.Packet.{Packet}
-use Rattle.pcap_io.specs.Capture.{Capture, IsTrace, IsRecordTime}
+use Rattle.pcap_io.specs.Capture.{Capture, IsTrace, IsRecordTime, trace_base}
 use Rattle.journal.specs.declared.setup.PacketPlan.{PacketPlan}
 use Rattle.journal.specs.SetupView.{SetupView}
 use Rattle.journal.specs.IsSetup.{IsSetup, longest_way}
 use Rattle.journal.proofs.UsualDelays.{usual_delays_fit}
 use Rattle.modelnet.specs.declared.order.PipeSpec.{PipeSpec}
 use Rattle.modelnet.specs.Order.{ChainView, IsOrder}
-use Rattle.modelnet.specs.Chain.{IsPipeOf, IsChainSetup, plan_of, plans_of, trace_base}
+use Rattle.modelnet.specs.Chain.{IsPipeOf, IsChainSetup, plan_of, plans_of}
 
 pub All-one : {X : Type 0} (P : X → Type 0) (x : X) → P x → All P (x ∷ [])
 All-one P x here zero d within = here
@@ -77,8 +77,8 @@ usual_latencies tick_ns (pipe ∷ pipes) (p ∷ params) same =
 
 pub is_setup : (order : ChainView) (trace : Capture) (S : SetupView) → IsOrder order → IsTrace trace → All (λ p. IsRecordTime p.time_ns) trace.packets → IsChainSetup order trace S → IsSetup S
 is_setup order trace S o t times c = record {
-  tick_least = rw c.tick_ns o.tick_least;
-  tick_most = rw c.tick_ns o.tick_most;
+  tick_least = rw c.tick_ns o.tick.0;
+  tick_most = rw c.tick_ns o.tick.1;
   link_type = rw c.link_type t.link_type;
   cores_least = rw c.cores (lit≤ tt);
   cores_most = rw c.cores (lit≤ tt);
@@ -118,6 +118,6 @@ is_setup order trace S o t times c = record {
 
     way : longest_way S the_route < 550000000000000000
     way =
-        usual_delays_fit S the_route (rw c.tick_ns o.tick_least) (rw c.tick_ns o.tick_most)
+        usual_delays_fit S the_route (rw c.tick_ns o.tick.0) (rw c.tick_ns o.tick.1)
         (rw c.tick_ns (usual_latencies order.tick_ns order.pipes S.pipes c.pipes))
         (rw (length-range_with_len 0 (length order.pipes)) (omega (arith, o.pipes_most)))

@@ -30,23 +30,6 @@ plans-more base tick_ns packets i d within =
     ∙ map-append (plan_of base tick_ns) (enumerate_from 0 (take i packets)) ((0 + length (take i packets), get_or packets i d) ∷ [])
     ∙ ap (λ k. plans_of base tick_ns (take i packets) ++ plan_of base tick_ns (k, get_or packets i d) ∷ []) (zero-add (length (take i packets)) ∙ length-take-le i packets (omega arith))
 
--- the least so far, with one more
-pub least-more : {X : Type 0} (f : X → ℕ) (first : ℕ) (xs : List X) (i : ℕ) (d : X) → i < length xs → fold min first (map f (take (i + 1) xs)) ≡ min (fold min first (map f (take i xs))) (f (get_or xs i d))
-least-more f first xs i d within =
-    fold-map min f first (take (i + 1) xs) ∙ fold_more (λ b x. min b (f x)) first xs i d within
-    ∙ ap (λ b. min b (f (get_or xs i d))) (sym (fold-map min f first (take i xs)))
-
-pub least-more-is : {X : Type 0} (f : X → ℕ) (first : ℕ) (xs : List X) (i : ℕ) (x : X) {least least' : ℕ} → i < length xs → least ≡ fold min first (map f (take i xs)) → x ≡ get_or xs i x → least' ≡ min least (f x) → least' ≡ fold min first (map f (take (i + 1) xs))
-least-more-is f first xs i x within so_far read lesser =
-    lesser ∙ ap (λ b. min b (f x)) so_far ∙ ap (λ y. min (fold min first (map f (take i xs))) (f y)) read ∙ sym (least-more f first xs i x within)
-
-pub All-least-more : {X : Type 0} (f : X → ℕ) (xs : List X) (i : ℕ) (x : X) {least least' : ℕ} → i < length xs → All (λ y. least ≤ f y) (take i xs) → x ≡ get_or xs i x → least' ≡ min least (f x) → All (λ y. least' ≤ f y) (take (i + 1) xs)
-All-least-more f xs i x {least} {least'} within so_far read lesser =
-    let here : f x ≡ f (get_or xs i x) = ap f read in
-    All-more (λ y. least' ≤ f y) xs i x within
-    (λ k d below. let before = so_far k d below in omega (arith, before, lesser))
-    (omega (arith, here, lesser))
-
 -- the numbers from a on, with one more
 pub range-suc : (a n : ℕ) → range_with_len a (suc n) ≡ range_with_len a n ++ (a + n) ∷ []
 range-suc a zero = ap (λ k. k ∷ []) (sym (add-zero a))

@@ -8,7 +8,7 @@ use Rattle.mn_edge.specs.Part.{Part}
 use Rattle.modelnet.specs.declared.status.Status.{Status}
 use Rattle.modelnet.specs.declared.status.Status.TheVariants.{Done, NoMemory, BadWords, BadTrace, ReadFault, WriteFault, TooLarge}
 use Rattle.modelnet.specs.Roles.{Input, WasRead, IsReading}
-use Rattle.modelnet.specs.Commands.{Host, Command, Reads, inputs_of, bytes_read, AreRead, Passes, IsRefused, Answered}
+use Rattle.modelnet.specs.Commands.{Host, Command, ReadInputs, inputs_of, bytes_read, AreRead, Passes, IsRefused, Answered}
 use Rattle.modelnet.specs.Exact.{IsQuiet, MustAnswer, IsSound}
 
 -- the bytes that were read to the end are all that was told
@@ -40,7 +40,7 @@ push_append [] x ys = refl
 push_append (z ∷ xs) x ys = ap (λ zs. z ∷ zs) (push_append xs x ys)
 
 -- inputs that were read whole and are accepted ask for nothing: those after them decide
-accepted : (c : Command) (old new : Host) (answer : Status) (past : List (List ℕ)) (reads : Reads) (later : List Input) → AreRead reads old new → Passes c (past ++ bytes_read reads)
+accepted : (c : Command) (old new : Host) (answer : Status) (past : List (List ℕ)) (reads : ReadInputs) (later : List Input) → AreRead reads old new → Passes c (past ++ bytes_read reads)
     → MustAnswer c old new (past ++ bytes_read reads) later answer → MustAnswer c old new past (inputs_of reads ++ later) answer
 accepted c old new answer past [] later read passes must = subst (λ bytes. MustAnswer c old new bytes later answer) (append-nil past) must
 accepted c old new answer past (r ∷ reads) later read passes must = λ told is quiet.
@@ -52,8 +52,8 @@ accepted c old new answer past (r ∷ reads) later read passes must = λ told is
       λ within refusal refused. absurd (passes (past ++ r.1 ∷ []) (bytes_read reads) refusal (sym regroup) (subst (λ b. c.refuses (past ++ b ∷ []) refusal) same refused)),
       λ within fine. subst (λ b. MustAnswer c old new (past ++ b ∷ []) (inputs_of reads ++ later) answer) (sym same)
           (accepted c old new answer (past ++ r.1 ∷ []) reads later read.2
-              (subst (Passes c) (sym regroup) passes)
-              (subst (λ bytes. MustAnswer c old new bytes later answer) (sym regroup) must)),
+          (subst (Passes c) (sym regroup) passes)
+          (subst (λ bytes. MustAnswer c old new bytes later answer) (sym regroup) must)),
     )
 
 -- out of memory may stand for every answer
@@ -63,12 +63,12 @@ always_no_memory c old new past (input ∷ inputs) = λ told is quiet.
     (λ many. inr refl, λ within refusal refused. inr refl, λ within fine. always_no_memory c old new (past ++ told ∷ []) inputs)
 
 -- of inputs and one more, all were read whole
-read_but_last : (reads : Reads) (r : Input × List ℕ) (old new : Host) → AreRead (reads ++ r ∷ []) old new → AreRead reads old new × (WasRead r.0.name r.1 (old r.0.role) (new r.0.role) × (length r.1 ≤ r.0.limit))
+read_but_last : (reads : ReadInputs) (r : Input × List ℕ) (old new : Host) → AreRead (reads ++ r ∷ []) old new → AreRead reads old new × (WasRead r.0.name r.1 (old r.0.role) (new r.0.role) × (length r.1 ≤ r.0.limit))
 read_but_last [] r old new are = (tt, (are.0, are.1))
 read_but_last (q ∷ reads) r old new are = let rest = read_but_last reads r old new are.2 in ((are.0, are.1, rest.0), rest.1)
 
 -- where inputs were read whole and are accepted, and the rest asks for this answer, the command does
-whole_command : (c : Command) (old new : Host) (answer : Status) (reads : Reads) (later : List Input) → c.inputs ≡ inputs_of reads ++ later → AreRead reads old new → Passes c (bytes_read reads)
+whole_command : (c : Command) (old new : Host) (answer : Status) (reads : ReadInputs) (later : List Input) → c.inputs ≡ inputs_of reads ++ later → AreRead reads old new → Passes c (bytes_read reads)
     → MustAnswer c old new (bytes_read reads) later answer → MustAnswer c old new [] c.inputs answer
 whole_command c old new answer reads later inputs read passes must =
     subst (λ is. MustAnswer c old new [] is answer) (sym inputs) (accepted c old new answer [] reads later read passes must)
@@ -82,19 +82,19 @@ refusal_is_due : (c : Command) → IsSound c → (old new : Host) (answer : Stat
 refusal_is_due c sound old new answer r =
     let all = read_but_last r.reads (r.at, r.bytes) old new r.stands.read in
     whole_command c old new answer r.reads (r.at ∷ r.later) r.inputs all.0 r.passes (λ told is quiet.
-        let same : told ≡ r.bytes = whole_bytes r.at.name r.bytes told (old r.at.role) (new r.at.role) all.1.0 is in
-        let few : length r.bytes ≤ r.at.limit = all.1.1 in
-        let size : length told ≡ length r.bytes = ap length same in (
-          λ many. absurd (omega (arith, few, many, size)),
-          λ within refusal refused. inl (sound.one_refusal (bytes_read r.reads ++ told ∷ []) answer refusal (subst (λ b. c.refuses (bytes_read r.reads ++ b ∷ []) answer) (sym same) r.refused) refused),
-          λ within fine. absurd (fine answer (subst (λ b. c.refuses (bytes_read r.reads ++ b ∷ []) answer) (sym same) r.refused)),
-        ))
+    let same : told ≡ r.bytes = whole_bytes r.at.name r.bytes told (old r.at.role) (new r.at.role) all.1.0 is in
+    let few : length r.bytes ≤ r.at.limit = all.1.1 in
+    let size : length told ≡ length r.bytes = ap length same in (
+      λ many. absurd (omega (arith, few, many, size)),
+      λ within refusal refused. inl (sound.one_refusal (bytes_read r.reads ++ told ∷ []) answer refusal (subst (λ b. c.refuses (bytes_read r.reads ++ b ∷ []) answer) (sym same) r.refused) refused),
+      λ within fine. absurd (fine answer (subst (λ b. c.refuses (bytes_read r.reads ++ b ∷ []) answer) (sym same) r.refused)),
+    ))
 
 -- the answer of a command is the one that it has to be
 pub must_answer : (c : Command) → IsSound c → (old new : Host) (answer : Status) → Answered c old new answer → MustAnswer c old new [] c.inputs answer
 must_answer c sound old new Done a =
     subst (λ is. MustAnswer c old new [] is Done) (append-nil (inputs_of a.reads) ∙ sym a.inputs)
-        (accepted c old new Done [] a.reads [] a.stands.read (written_passes c sound (bytes_read a.reads) _ a.says) (λ quiet. inl refl))
+    (accepted c old new Done [] a.reads [] a.stands.read (written_passes c sound (bytes_read a.reads) _ a.says) (λ quiet. inl refl))
 must_answer c sound old new NoMemory a = always_no_memory c old new [] c.inputs
 must_answer c sound old new (BadWords fault) a = absurd a
 must_answer c sound old new (BadTrace fault) a = refusal_is_due c sound old new (BadTrace fault) a
@@ -102,12 +102,12 @@ must_answer c sound old new (ReadFault role) a =
     whole_command c old new (ReadFault role) a.reads (a.at ∷ a.later) a.inputs a.stopped.read a.passes (λ told is quiet. absurd (quiet a.stopped.cut.1))
 must_answer c sound old new (TooLarge role) a =
     whole_command c old new (TooLarge role) a.reads (a.at ∷ a.later) a.inputs a.stopped.read a.passes (λ told is quiet.
-        let many = a.stopped.cut in
-        let front = front_of_told a.at.name many.bytes told (old a.at.role) (new a.at.role) many.stands is in (
-          λ large. inl (ap (λ r. TooLarge r) a.role_is),
-          λ within refusal refused. absurd (omega (arith, front, many.many, within)),
-          λ within fine. absurd (omega (arith, front, many.many, within)),
-        ))
+    let many = a.stopped.cut in
+    let front = front_of_told a.at.name many.bytes told (old a.at.role) (new a.at.role) many.stands is in (
+      λ large. inl (ap (λ r. TooLarge r) a.role_is),
+      λ within refusal refused. absurd (omega (arith, front, many.many, within)),
+      λ within fine. absurd (omega (arith, front, many.many, within)),
+    ))
 must_answer c sound old new (WriteFault role) a =
     subst (λ is. MustAnswer c old new [] is (WriteFault role)) (append-nil (inputs_of a.reads) ∙ sym a.inputs)
-        (accepted c old new (WriteFault role) [] a.reads [] a.stopped.read (written_passes c sound (bytes_read a.reads) _ a.says) (λ quiet. absurd (quiet a.at.role a.stopped.cut.1)))
+    (accepted c old new (WriteFault role) [] a.reads [] a.stopped.read (written_passes c sound (bytes_read a.reads) _ a.says) (λ quiet. absurd (quiet a.at.role a.stopped.cut.1)))

@@ -5,7 +5,7 @@ use Rattle.mn_edge.specs.declared.role.Role.{Role}
 use Rattle.mn_edge.specs.Part.{Part}
 use Rattle.modelnet.specs.declared.status.Status.{Status}
 use Rattle.modelnet.specs.declared.status.Status.TheVariants.{Done, NoMemory, BadWords, BadTrace, ReadFault, WriteFault, TooLarge}
-use Rattle.modelnet.specs.Commands.{Host, Command, Reads, Writes, inputs_of, bytes_read, outputs_of, bytes_written, ReadsNot, WritesNot, AreRead, AreWritten, Stands, StopsAt, Passes, Answered}
+use Rattle.modelnet.specs.Commands.{Host, Command, ReadInputs, WrittenOutputs, inputs_of, bytes_read, outputs_of, bytes_written, ReadsNot, WritesNot, AreRead, AreWritten, Stands, StopsAt, Passes, Answered}
 use Rattle.modelnet.specs.Exact.{IsSound, IsRefusal}
 use Rattle.modelnet.specs.Roles.{Input, Output, WasRead, WasWritten, IsReadFault, IsTooLarge, IsWriteFault, ReadsInput, WritesOutput}
 
@@ -15,27 +15,27 @@ Others role mid new = (other : Role) → other ≢ role → new other ≡ mid ot
 
 -- lists that grow at their end
 
-inputs_push : (reads : Reads) (r : Input × List ℕ) (later : List Input) → inputs_of (reads ++ r ∷ []) ++ later ≡ inputs_of reads ++ r.0 ∷ later
+inputs_push : (reads : ReadInputs) (r : Input × List ℕ) (later : List Input) → inputs_of (reads ++ r ∷ []) ++ later ≡ inputs_of reads ++ r.0 ∷ later
 inputs_push [] r later = refl
 inputs_push (q ∷ reads) r later = ap (λ inputs. q.0 ∷ inputs) (inputs_push reads r later)
 
-bytes_read_push : (reads : Reads) (r : Input × List ℕ) → bytes_read (reads ++ r ∷ []) ≡ bytes_read reads ++ r.1 ∷ []
+bytes_read_push : (reads : ReadInputs) (r : Input × List ℕ) → bytes_read (reads ++ r ∷ []) ≡ bytes_read reads ++ r.1 ∷ []
 bytes_read_push [] r = refl
 bytes_read_push (q ∷ reads) r = ap (λ bytes. q.1 ∷ bytes) (bytes_read_push reads r)
 
-outputs_push : (writes : Writes) (w : Output × List ℕ) (later : List Output) → outputs_of (writes ++ w ∷ []) ++ later ≡ outputs_of writes ++ w.0 ∷ later
+outputs_push : (writes : WrittenOutputs) (w : Output × List ℕ) (later : List Output) → outputs_of (writes ++ w ∷ []) ++ later ≡ outputs_of writes ++ w.0 ∷ later
 outputs_push [] w later = refl
 outputs_push (v ∷ writes) w later = ap (λ outputs. v.0 ∷ outputs) (outputs_push writes w later)
 
-bytes_written_push : (writes : Writes) (w : Output × List ℕ) (later : List (List ℕ)) → bytes_written (writes ++ w ∷ []) ++ later ≡ bytes_written writes ++ w.1 ∷ later
+bytes_written_push : (writes : WrittenOutputs) (w : Output × List ℕ) (later : List (List ℕ)) → bytes_written (writes ++ w ∷ []) ++ later ≡ bytes_written writes ++ w.1 ∷ later
 bytes_written_push [] w later = refl
 bytes_written_push (v ∷ writes) w later = ap (λ bytes. v.1 ∷ bytes) (bytes_written_push writes w later)
 
-reads_not_push : (reads : Reads) (r : Input × List ℕ) (role : Role) → ReadsNot (inputs_of (reads ++ r ∷ [])) role → ReadsNot (inputs_of reads) role × (role ≢ r.0.role)
+reads_not_push : (reads : ReadInputs) (r : Input × List ℕ) (role : Role) → ReadsNot (inputs_of (reads ++ r ∷ [])) role → ReadsNot (inputs_of reads) role × (role ≢ r.0.role)
 reads_not_push [] r role none = (tt, none.0)
 reads_not_push (q ∷ reads) r role none = let rest = reads_not_push reads r role none.1 in ((none.0, rest.0), rest.1)
 
-writes_not_push : (writes : Writes) (w : Output × List ℕ) (role : Role) → WritesNot (outputs_of (writes ++ w ∷ [])) role → WritesNot (outputs_of writes) role × (role ≢ w.0.role)
+writes_not_push : (writes : WrittenOutputs) (w : Output × List ℕ) (role : Role) → WritesNot (outputs_of (writes ++ w ∷ [])) role → WritesNot (outputs_of writes) role × (role ≢ w.0.role)
 writes_not_push [] w role none = (tt, none.0)
 writes_not_push (v ∷ writes) w role none = let rest = writes_not_push writes w role none.1 in ((none.0, rest.0), rest.1)
 
@@ -63,28 +63,28 @@ split_last (w ∷ xs) x (y ∷ front) back is =
 
 -- what stands before a call on another role stands after it
 
-still_read : (reads : Reads) (role : Role) (old mid new : Host) → ReadsNot (inputs_of reads) role → Others role mid new → AreRead reads old mid → AreRead reads old new
+still_read : (reads : ReadInputs) (role : Role) (old mid new : Host) → ReadsNot (inputs_of reads) role → Others role mid new → AreRead reads old mid → AreRead reads old new
 still_read [] role old mid new none others are = tt
 still_read (r ∷ reads) role old mid new none others are =
     let same : new r.0.role ≡ mid r.0.role = others r.0.role (λ is. none.0 (sym is)) in
     (subst (λ part. WasRead r.0.name r.1 (old r.0.role) part) (sym same) are.0, are.1, still_read reads role old mid new none.1 others are.2)
 
-still_written : (writes : Writes) (role : Role) (old mid new : Host) → WritesNot (outputs_of writes) role → Others role mid new → AreWritten writes old mid → AreWritten writes old new
+still_written : (writes : WrittenOutputs) (role : Role) (old mid new : Host) → WritesNot (outputs_of writes) role → Others role mid new → AreWritten writes old mid → AreWritten writes old new
 still_written [] role old mid new none others are = tt
 still_written (w ∷ writes) role old mid new none others are =
     let same : new w.0.role ≡ mid w.0.role = others w.0.role (λ is. none.0 (sym is)) in
     (subst (λ part. WasWritten w.0.name w.1 (old w.0.role) part) (sym same) are.0, still_written writes role old mid new none.1 others are.1)
 
-read_push : (reads : Reads) (r : Input × List ℕ) (old new : Host) → AreRead reads old new → WasRead r.0.name r.1 (old r.0.role) (new r.0.role) → length r.1 ≤ r.0.limit → AreRead (reads ++ r ∷ []) old new
+read_push : (reads : ReadInputs) (r : Input × List ℕ) (old new : Host) → AreRead reads old new → WasRead r.0.name r.1 (old r.0.role) (new r.0.role) → length r.1 ≤ r.0.limit → AreRead (reads ++ r ∷ []) old new
 read_push [] r old new are read few = (read, few, tt)
 read_push (q ∷ reads) r old new are read few = (are.0, are.1, read_push reads r old new are.2 read few)
 
-written_push : (writes : Writes) (w : Output × List ℕ) (old new : Host) → AreWritten writes old new → WasWritten w.0.name w.1 (old w.0.role) (new w.0.role) → AreWritten (writes ++ w ∷ []) old new
+written_push : (writes : WrittenOutputs) (w : Output × List ℕ) (old new : Host) → AreWritten writes old new → WasWritten w.0.name w.1 (old w.0.role) (new w.0.role) → AreWritten (writes ++ w ∷ []) old new
 written_push [] w old new are written = (written, tt)
 written_push (v ∷ writes) w old new are written = (are.0, written_push writes w old new are.1 written)
 
 -- one more input was read whole
-stands_read : (reads : Reads) (r : Input × List ℕ) (old mid new : Host) → Stands reads [] old mid → ReadsNot (inputs_of reads) r.0.role → Others r.0.role mid new
+stands_read : (reads : ReadInputs) (r : Input × List ℕ) (old mid new : Host) → Stands reads [] old mid → ReadsNot (inputs_of reads) r.0.role → Others r.0.role mid new
     → WasRead r.0.name r.1 (mid r.0.role) (new r.0.role) → length r.1 ≤ r.0.limit → Stands (reads ++ r ∷ []) [] old new
 stands_read reads r old mid new s none others read few =
     let first : mid r.0.role ≡ old r.0.role = s.others r.0.role none tt in
@@ -95,7 +95,7 @@ stands_read reads r old mid new s none others read few =
     }
 
 -- one more output was written whole
-stands_written : (reads : Reads) (writes : Writes) (w : Output × List ℕ) (old mid new : Host) → Stands reads writes old mid
+stands_written : (reads : ReadInputs) (writes : WrittenOutputs) (w : Output × List ℕ) (old mid new : Host) → Stands reads writes old mid
     → ReadsNot (inputs_of reads) w.0.role → WritesNot (outputs_of writes) w.0.role → Others w.0.role mid new
     → WasWritten w.0.name w.1 (mid w.0.role) (new w.0.role) → Stands reads (writes ++ w ∷ []) old new
 stands_written reads writes w old mid new s unread unwritten others written =
@@ -107,7 +107,7 @@ stands_written reads writes w old mid new s unread unwritten others written =
     }
 
 -- the next role is cut
-stops_at : (reads : Reads) (writes : Writes) (at : Role) (IsCut : Part → Part → Type 0) (old mid new : Host) → Stands reads writes old mid
+stops_at : (reads : ReadInputs) (writes : WrittenOutputs) (at : Role) (IsCut : Part → Part → Type 0) (old mid new : Host) → Stands reads writes old mid
     → ReadsNot (inputs_of reads) at → WritesNot (outputs_of writes) at → Others at mid new → IsCut (mid at) (new at) → StopsAt reads writes at IsCut old new
 stops_at reads writes at IsCut old mid new s unread unwritten others cut =
     let first : mid at ≡ old at = s.others at unread unwritten in
@@ -121,13 +121,13 @@ stops_at reads writes at IsCut old mid new s unread unwritten others cut =
 -- how far a command has come
 
 -- these inputs were read whole and their bytes are accepted, and these are to be read
-pub record HasRead (c : Command) (reads : Reads) (later : List Input) (old new : Host) : Type 0 where
+pub record HasRead (c : Command) (reads : ReadInputs) (later : List Input) (old new : Host) : Type 0 where
   pub inputs : c.inputs ≡ inputs_of reads ++ later
   pub passes : Passes c (bytes_read reads)
   pub stands : Stands reads [] old new
 
 -- all inputs were read whole, these outputs were written whole, and these are to be written with these bytes
-pub record HasWritten (c : Command) (reads : Reads) (writes : Writes) (later : List Output) (later_bytes : List (List ℕ)) (old new : Host) : Type 0 where
+pub record HasWritten (c : Command) (reads : ReadInputs) (writes : WrittenOutputs) (later : List Output) (later_bytes : List (List ℕ)) (old new : Host) : Type 0 where
   pub inputs : c.inputs ≡ inputs_of reads
   pub outputs : c.outputs ≡ outputs_of writes ++ later
   pub says : c.writes (bytes_read reads) (bytes_written writes ++ later_bytes)
@@ -154,7 +154,7 @@ passes_push c past bytes passes fine front back status is refused =
     ]
 
 -- the next input was read whole, and nothing refuses its bytes
-pub has_read : (c : Command) (reads : Reads) (at : Input) (later : List Input) (bytes : List ℕ) (old mid new : Host) → HasRead c reads (at ∷ later) old mid
+pub has_read : (c : Command) (reads : ReadInputs) (at : Input) (later : List Input) (bytes : List ℕ) (old mid new : Host) → HasRead c reads (at ∷ later) old mid
     → ReadsNot (inputs_of reads) at.role → ReadsInput at (mid at.role) (new at.role) (Ok bytes) → Others at.role mid new
     → ((status : Status) → c.refuses (bytes_read reads ++ bytes ∷ []) status → ⊥) → HasRead c (reads ++ (at, bytes) ∷ []) later old new
 has_read c reads at later bytes old mid new so none own others fine = record {
@@ -164,18 +164,18 @@ has_read c reads at later bytes old mid new so none own others fine = record {
 }
 
 -- memory was refused while inputs are read, or after
-pub no_memory : (c : Command) (reads : Reads) (later : List Input) (old new : Host) → HasRead c reads later old new → Answered c old new NoMemory
+pub no_memory : (c : Command) (reads : ReadInputs) (later : List Input) (old new : Host) → HasRead c reads later old new → Answered c old new NoMemory
 no_memory c reads later old new so role unread =
     so.stands.others role (reads_not_front (inputs_of reads) later role (subst (λ inputs. ReadsNot inputs role) so.inputs unread)) tt
 
 -- memory was refused while the next input is read, or after
-no_memory_at : (c : Command) (reads : Reads) (at : Input) (later : List Input) (old mid new : Host) → HasRead c reads (at ∷ later) old mid → Others at.role mid new → Answered c old new NoMemory
+no_memory_at : (c : Command) (reads : ReadInputs) (at : Input) (later : List Input) (old mid new : Host) → HasRead c reads (at ∷ later) old mid → Others at.role mid new → Answered c old new NoMemory
 no_memory_at c reads at later old mid new so others role unread =
     let split = reads_not_split (inputs_of reads) at later role (subst (λ inputs. ReadsNot inputs role) so.inputs unread) in
     others role split.1 ∙ so.stands.others role split.0 tt
 
 -- the next input can't be read whole
-pub stops_reading : (c : Command) (reads : Reads) (at : Input) (later : List Input) (status : Status) (old mid new : Host) → HasRead c reads (at ∷ later) old mid
+pub stops_reading : (c : Command) (reads : ReadInputs) (at : Input) (later : List Input) (status : Status) (old mid new : Host) → HasRead c reads (at ∷ later) old mid
     → ReadsNot (inputs_of reads) at.role → ReadsInput at (mid at.role) (new at.role) (Err status) → Others at.role mid new → Answered c old new status
 stops_reading c reads at later NoMemory old mid new so none own others = no_memory_at c reads at later old mid new so others
 stops_reading c reads at later (ReadFault role) old mid new so none own others = record {
@@ -202,7 +202,7 @@ stops_reading c reads at later (BadTrace fault) old mid new so none own others =
 stops_reading c reads at later (WriteFault role) old mid new so none own others = absurd own
 
 -- the next input was read whole, and its bytes are refused
-pub refuses : (c : Command) (reads : Reads) (at : Input) (later : List Input) (bytes : List ℕ) (status : Status) (old mid new : Host) → IsSound c → HasRead c reads (at ∷ later) old mid
+pub refuses : (c : Command) (reads : ReadInputs) (at : Input) (later : List Input) (bytes : List ℕ) (status : Status) (old mid new : Host) → IsSound c → HasRead c reads (at ∷ later) old mid
     → ReadsNot (inputs_of reads) at.role → ReadsInput at (mid at.role) (new at.role) (Ok bytes) → Others at.role mid new
     → (status ≡ NoMemory) ⊎ c.refuses (bytes_read reads ++ bytes ∷ []) status → Answered c old new status
 refuses c reads at later bytes status old mid new sound so none own others (inl empty) =
@@ -228,7 +228,7 @@ refuses c reads at later bytes status old mid new sound so none own others (inr 
     }
 
 -- all inputs were read whole, and these bytes are to be written
-pub has_made : (c : Command) (reads : Reads) (outs : List (List ℕ)) (old new : Host) → HasRead c reads [] old new → c.writes (bytes_read reads) outs → HasWritten c reads [] c.outputs outs old new
+pub has_made : (c : Command) (reads : ReadInputs) (outs : List (List ℕ)) (old new : Host) → HasRead c reads [] old new → c.writes (bytes_read reads) outs → HasWritten c reads [] c.outputs outs old new
 has_made c reads outs old new so says = record {
   inputs = so.inputs ∙ all (inputs_of reads);
   outputs = refl;
@@ -241,7 +241,7 @@ has_made c reads outs old new so says = record {
     all (i ∷ inputs) = ap (λ is. i ∷ is) (all inputs)
 
 -- the next output was written whole
-pub has_written : (c : Command) (reads : Reads) (writes : Writes) (at : Output) (later : List Output) (bytes : List ℕ) (later_bytes : List (List ℕ)) (old mid new : Host)
+pub has_written : (c : Command) (reads : ReadInputs) (writes : WrittenOutputs) (at : Output) (later : List Output) (bytes : List ℕ) (later_bytes : List (List ℕ)) (old mid new : Host)
     → HasWritten c reads writes (at ∷ later) (bytes ∷ later_bytes) old mid → ReadsNot (inputs_of reads) at.role → WritesNot (outputs_of writes) at.role
     → WasWritten at.name bytes (mid at.role) (new at.role) → Others at.role mid new → HasWritten c reads (writes ++ (at, bytes) ∷ []) later later_bytes old new
 has_written c reads writes at later bytes later_bytes old mid new so unread unwritten own others = record {
@@ -252,7 +252,7 @@ has_written c reads writes at later bytes later_bytes old mid new so unread unwr
 }
 
 -- the next output can't be written whole
-pub stops_writing : (c : Command) (reads : Reads) (writes : Writes) (at : Output) (later : List Output) (bytes : List ℕ) (later_bytes : List (List ℕ)) (status : Status) (old mid new : Host)
+pub stops_writing : (c : Command) (reads : ReadInputs) (writes : WrittenOutputs) (at : Output) (later : List Output) (bytes : List ℕ) (later_bytes : List (List ℕ)) (status : Status) (old mid new : Host)
     → HasWritten c reads writes (at ∷ later) (bytes ∷ later_bytes) old mid → ReadsNot (inputs_of reads) at.role → WritesNot (outputs_of writes) at.role
     → WritesOutput at bytes (mid at.role) (new at.role) (Err status) → Others at.role mid new → Answered c old new status
 stops_writing c reads writes at later bytes later_bytes (WriteFault role) old mid new so unread unwritten own others = record {
@@ -276,7 +276,7 @@ stops_writing c reads writes at later bytes later_bytes (ReadFault role) old mid
 stops_writing c reads writes at later bytes later_bytes (TooLarge role) old mid new so unread unwritten own others = absurd own
 
 -- all outputs were written whole
-pub is_done : (c : Command) (reads : Reads) (writes : Writes) (old new : Host) → HasWritten c reads writes [] [] old new → Answered c old new Done
+pub is_done : (c : Command) (reads : ReadInputs) (writes : WrittenOutputs) (old new : Host) → HasWritten c reads writes [] [] old new → Answered c old new Done
 is_done c reads writes old new so = record {
   reads = reads;
   writes = writes;
@@ -289,6 +289,7 @@ is_done c reads writes old new so = record {
     all : (outputs : List Output) → outputs ++ [] ≡ outputs
     all [] = refl
     all (o ∷ outputs) = ap (λ os. o ∷ os) (all outputs)
+
     none : (bytes : List (List ℕ)) → bytes ++ [] ≡ bytes
     none [] = refl
     none (b ∷ bytes) = ap (λ bs. b ∷ bs) (none bytes)

@@ -2,7 +2,7 @@
 use Rattle.std.proofs.Common.{◌≡◌, ◌<◌, ◌==◌, ◌+◌, ℕ, Bool, true, false, cond, not, List, [], ◌∷◌, length, refl, ap, arith, None}
 use Rattle.std.specs.List.{slice_split, onto_first, position_or_len, before_first, after_first}
 use Rattle.std.proofs.lemmas.List.Splits.{slice_split_first}
-use Rattle.modelnet.specs.PipeWord.{fields_of, pipe_of_fields, pipe_of}
+use Rattle.modelnet.specs.PipeWord.{fields_of, pipe_of_fields, pipe_spec_of}
 
 uncut : {X : Type 0} (p : X → Bool) (xs : List X) → position_or_len p xs ≡ length xs → slice_split p xs ≡ xs ∷ []
 uncut p [] none = refl
@@ -38,25 +38,25 @@ fields_of-some (b ∷ word) none = from (b == 58) none
     from true none = cc
     from false none = onto_first-some b (slice_split (λ b. b == 58) word) none
 
-pub pipe_of-one : (word a : List ℕ) → fields_of word ≡ a ∷ [] → pipe_of word ≡ None
-unfolding pipe_of pipe_of_fields
-pipe_of-one word a fields = rw fields refl
+pub pipe_spec_of-one : (word a : List ℕ) → fields_of word ≡ a ∷ [] → pipe_spec_of word ≡ None
+unfolding pipe_spec_of pipe_of_fields
+pipe_spec_of-one word a fields = rw fields refl
 
-pub pipe_of-two : (word a b : List ℕ) → fields_of word ≡ a ∷ b ∷ [] → pipe_of word ≡ None
-unfolding pipe_of pipe_of_fields
-pipe_of-two word a b fields = rw fields refl
+pub pipe_spec_of-two : (word a b : List ℕ) → fields_of word ≡ a ∷ b ∷ [] → pipe_spec_of word ≡ None
+unfolding pipe_spec_of pipe_of_fields
+pipe_spec_of-two word a b fields = rw fields refl
 
-pub pipe_of-three : (word a b c : List ℕ) → fields_of word ≡ a ∷ b ∷ c ∷ [] → pipe_of word ≡ None
-unfolding pipe_of pipe_of_fields
-pipe_of-three word a b c fields = rw fields refl
+pub pipe_spec_of-three : (word a b c : List ℕ) → fields_of word ≡ a ∷ b ∷ c ∷ [] → pipe_spec_of word ≡ None
+unfolding pipe_spec_of pipe_of_fields
+pipe_spec_of-three word a b c fields = rw fields refl
 
 -- more than four fields
-pub pipe_of-more : (word a b c d back : List ℕ) → fields_of word ≡ a ∷ b ∷ c ∷ d ∷ fields_of back → pipe_of word ≡ None
-unfolding pipe_of pipe_of_fields
-pipe_of-more word a b c d back fields = rw fields (from (fields_of back) (fields_of-some back))
+pub pipe_spec_of-more : (word a b c d back : List ℕ) → fields_of word ≡ a ∷ b ∷ c ∷ d ∷ fields_of back → pipe_spec_of word ≡ None
+unfolding pipe_spec_of pipe_of_fields
+pipe_spec_of-more word a b c d back fields = rw fields (from (fields_of back) (fields_of-some back))
   where
     from : (parts : List (List ℕ)) → (parts ≡ [] → ⊥) → pipe_of_fields (a ∷ b ∷ c ∷ d ∷ parts) ≡ None
     from [] some = absurd (some refl)
     from (part ∷ parts) some = refl
 
-pub ruleset counts = (pipe_of-one, pipe_of-two, pipe_of-three, pipe_of-more)
+pub ruleset counts = (pipe_spec_of-one, pipe_spec_of-two, pipe_spec_of-three, pipe_spec_of-more)

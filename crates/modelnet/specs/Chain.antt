@@ -4,9 +4,9 @@ use Rattle.std.specs.List.{AllZip, range_with_len, enumerate_from}
 use Rattle.std.specs.Prelude.{replicate}
 use Rattle.mn_base.specs.declared.params.PipeParams.{PipeParams}
 use Rattle.mn_base.specs.Units.{latency_in_ticks, keep}
-use Rattle.mn_base.specs.Times.{base_of, entry_tick_of}
+use Rattle.mn_base.specs.Times.{entry_tick_of}
 use Rattle.pcap_io.specs.declared.packet.Packet.{Packet}
-use Rattle.pcap_io.specs.Capture.{Capture}
+use Rattle.pcap_io.specs.Capture.{Capture, trace_base}
 use Rattle.journal.specs.declared.setup.PacketPlan.{PacketPlan}
 use Rattle.journal.specs.SetupView.{SetupView}
 use Rattle.modelnet.specs.declared.order.PipeSpec.{PipeSpec}
@@ -19,10 +19,6 @@ pub record IsPipeOf (tick_ns : ℕ) (pipe : PipeSpec) (params : PipeParams) : Ty
   pub latency_ticks : params.latency_ticks ≡ latency_in_ticks pipe.latency_us tick_ns
   pub queue : params.queue ≡ pipe.queue
   pub keep_of_loss : params.keep ≡ keep pipe.ppm
-
--- the time base of a trace, in ns
-abbrev pub trace_base : Capture → ℕ
-trace_base trace = base_of (map (λ p. p.time_ns) trace.packets)
 
 -- a packet of the trace, with its number, as it enters the one route at the one core
 abbrev pub plan_of : ℕ → ℕ → ℕ × Packet → PacketPlan

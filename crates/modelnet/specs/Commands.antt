@@ -20,22 +20,22 @@ pub record Command : Type 1 where
   pub writes : List (List ℕ) → List (List ℕ) → Type 0
 
 -- inputs with the bytes that were read of each, and outputs with the bytes that were written to each
-abbrev pub Reads : Type 0
-Reads = List (Input × List ℕ)
+abbrev pub ReadInputs : Type 0
+ReadInputs = List (Input × List ℕ)
 
-abbrev pub Writes : Type 0
-Writes = List (Output × List ℕ)
+abbrev pub WrittenOutputs : Type 0
+WrittenOutputs = List (Output × List ℕ)
 
-abbrev pub inputs_of : Reads → List Input
+abbrev pub inputs_of : ReadInputs → List Input
 inputs_of reads = map (λ r. r.0) reads
 
-abbrev pub bytes_read : Reads → List (List ℕ)
+abbrev pub bytes_read : ReadInputs → List (List ℕ)
 bytes_read reads = map (λ r. r.1) reads
 
-abbrev pub outputs_of : Writes → List Output
+abbrev pub outputs_of : WrittenOutputs → List Output
 outputs_of writes = map (λ w. w.0) writes
 
-abbrev pub bytes_written : Writes → List (List ℕ)
+abbrev pub bytes_written : WrittenOutputs → List (List ℕ)
 bytes_written writes = map (λ w. w.1) writes
 
 -- none of the inputs has this role
@@ -49,25 +49,25 @@ WritesNot [] role = Unit {0}
 WritesNot (output ∷ outputs) role = (role ≢ output.role) × WritesNot outputs role
 
 -- each was begun once, under its name, read to its end within its limit, and finished
-abbrev pub AreRead : Reads → Host → Host → Type 0
+abbrev pub AreRead : ReadInputs → Host → Host → Type 0
 AreRead [] old new = Unit {0}
 AreRead (r ∷ reads) old new =
     WasRead r.0.name r.1 (old r.0.role) (new r.0.role) × (length r.1 ≤ r.0.limit) × AreRead reads old new
 
 -- each was begun once, under its name, written whole and finished
-abbrev pub AreWritten : Writes → Host → Host → Type 0
+abbrev pub AreWritten : WrittenOutputs → Host → Host → Type 0
 AreWritten [] old new = Unit {0}
 AreWritten (w ∷ writes) old new = WasWritten w.0.name w.1 (old w.0.role) (new w.0.role) × AreWritten writes old new
 
 -- these roles were read and written whole and finished, and all others are as at entry
-pub record Stands (reads : Reads) (writes : Writes) (old new : Host) : Type 0 where
+pub record Stands (reads : ReadInputs) (writes : WrittenOutputs) (old new : Host) : Type 0 where
   pub read : AreRead reads old new
   pub written : AreWritten writes old new
   pub others : (role : Role) → ReadsNot (inputs_of reads) role → WritesNot (outputs_of writes) role → new role ≡ old role
 
 -- The host is stopped at a role: those before it were read and written whole and finished, it stands as `IsCut` says, and all
 -- others are as at entry.
-pub record StopsAt (reads : Reads) (writes : Writes) (at : Role) (IsCut : Part → Part → Type 0) (old new : Host) : Type 0 where
+pub record StopsAt (reads : ReadInputs) (writes : WrittenOutputs) (at : Role) (IsCut : Part → Part → Type 0) (old new : Host) : Type 0 where
   pub read : AreRead reads old new
   pub written : AreWritten writes old new
   pub cut : IsCut (old at) (new at)
@@ -79,8 +79,8 @@ Passes c bytes = (front back : List (List ℕ)) (status : Status) → bytes ≡ 
 
 -- all inputs were read whole, all outputs hold what the command writes for them, and every other role is as at entry
 pub record IsDone (c : Command) (old new : Host) : Type 0 where
-  pub reads : Reads
-  pub writes : Writes
+  pub reads : ReadInputs
+  pub writes : WrittenOutputs
   pub inputs : c.inputs ≡ inputs_of reads
   pub outputs : c.outputs ≡ outputs_of writes
   pub says : c.writes (bytes_read reads) (bytes_written writes)
@@ -88,7 +88,7 @@ pub record IsDone (c : Command) (old new : Host) : Type 0 where
 
 -- the inputs up to one were read whole, and this answer refuses their bytes; no answer refuses those of fewer
 pub record IsRefused (c : Command) (status : Status) (old new : Host) : Type 0 where
-  pub reads : Reads
+  pub reads : ReadInputs
   pub at : Input
   pub bytes : List ℕ
   pub later : List Input
@@ -99,7 +99,7 @@ pub record IsRefused (c : Command) (status : Status) (old new : Host) : Type 0 w
 
 -- the host is stopped at an input, and the bytes of those before it are accepted
 pub record IsCutAtInput (c : Command) (role : Role) (IsCut : Input → Part → Part → Type 0) (old new : Host) : Type 0 where
-  pub reads : Reads
+  pub reads : ReadInputs
   pub at : Input
   pub later : List Input
   pub inputs : c.inputs ≡ inputs_of reads ++ at ∷ later
@@ -109,8 +109,8 @@ pub record IsCutAtInput (c : Command) (role : Role) (IsCut : Input → Part → 
 
 -- all inputs were read whole, and the host is stopped at an output; the outputs before it hold what the command writes
 pub record IsCutAtOutput (c : Command) (role : Role) (old new : Host) : Type 0 where
-  pub reads : Reads
-  pub writes : Writes
+  pub reads : ReadInputs
+  pub writes : WrittenOutputs
   pub at : Output
   pub bytes : List ℕ
   pub later : List Output

@@ -25,7 +25,7 @@ MustAnswer c old new past (input ∷ later) answer =
     → (input.limit < length bytes → IsOrNoMemory (TooLarge input.role) answer)
     × (length bytes ≤ input.limit → (refusal : Status) → c.refuses (past ++ bytes ∷ []) refusal → IsOrNoMemory refusal answer)
     × (length bytes ≤ input.limit → ((refusal : Status) → c.refuses (past ++ bytes ∷ []) refusal → ⊥)
-        → MustAnswer c old new (past ++ bytes ∷ []) later answer)
+    → MustAnswer c old new (past ++ bytes ∷ []) later answer)
 
 -- an answer that refuses what was read
 abbrev pub IsRefusal : Status → Type 0

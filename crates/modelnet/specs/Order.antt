@@ -1,6 +1,7 @@
 -- What a command line asks for.
 use Rattle.std.specs.Prelude.{ℕ, ◌≤◌, List, length, All}
-use Rattle.mn_base.specs.Ranges.{AreInRange}
+use Rattle.mn_base.specs.declared.limits.TheConstants.{CHAIN_PIPES_MAX}
+use Rattle.mn_base.specs.Ranges.{AreInRange, IsTickLength}
 use Rattle.modelnet.specs.declared.order.PipeSpec.{PipeSpec}
 
 -- what contracts see of a `ChainOrder`
@@ -18,8 +19,7 @@ IsPipeSpec pipe = AreInRange pipe.bps pipe.latency_us pipe.queue pipe.ppm
 
 -- an order within the limits of `chain`
 pub record IsOrder (order : ChainView) : Type 0 where
-  pub tick_least : 1000 ≤ order.tick_ns
-  pub tick_most : order.tick_ns ≤ 10000000
+  pub tick : IsTickLength order.tick_ns
   pub pipes_least : 1 ≤ length order.pipes
-  pub pipes_most : length order.pipes ≤ 16
+  pub pipes_most : length order.pipes ≤ CHAIN_PIPES_MAX
   pub pipes : All IsPipeSpec order.pipes

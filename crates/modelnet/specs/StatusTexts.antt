@@ -1,10 +1,8 @@
 -- The lines that tell how a command ended. All are ASCII; a line ends with a line feed, 10.
 use Rattle.std.specs.Prelude.{ℕ, List, [], ◌∷◌, ◌++◌, codes}
-use Rattle.std.specs.Fmt.{decimal}
 use Rattle.mn_edge.specs.declared.role.Role.{Role}
 use Rattle.mn_edge.specs.declared.role.Role.TheVariants as role
-use Rattle.pcap_io.specs.declared.fault.PcapFault.{PcapFault}
-use Rattle.pcap_io.specs.declared.fault.PcapFault.TheVariants.{NotPcap, ShortHeader, Version, LinkType, Truncated, TimeRange, TooLong, TooMany}
+use Rattle.pcap_io.specs.FaultTexts.{pcap_fault_text}
 use Rattle.modelnet.specs.declared.words_fault.Opt.{Opt}
 use Rattle.modelnet.specs.declared.words_fault.Opt.TheVariants as opt
 use Rattle.modelnet.specs.declared.words_fault.WordsFault.{WordsFault}
@@ -13,8 +11,8 @@ use Rattle.modelnet.specs.declared.status.Status.{Status}
 use Rattle.modelnet.specs.declared.status.Status.TheVariants.{Done, NoMemory, BadWords, BadTrace, ReadFault, WriteFault, TooLarge}
 
 -- the program's name, a text, and a line feed
-abbrev pub line : List ℕ → List ℕ
-line text = codes "modelnet: " ++ text ++ 10 ∷ []
+abbrev pub program_line : List ℕ → List ℕ
+program_line text = codes "modelnet: " ++ text ++ 10 ∷ []
 
 abbrev pub opt_name : Opt → List ℕ
 opt_name opt.Mode = codes "--mode"
@@ -41,22 +39,12 @@ words_fault_text Command = codes "no such command"
 words_fault_text Form = codes "bad words"
 words_fault_text (Value opt) = codes "bad value of " ++ opt_name opt
 
-unfoldable pub pcap_fault_text : PcapFault → List ℕ
-pcap_fault_text NotPcap = codes "not pcap"
-pcap_fault_text ShortHeader = codes "short header"
-pcap_fault_text (Version number) = codes "version " ++ decimal number
-pcap_fault_text (LinkType number) = codes "link type " ++ decimal number
-pcap_fault_text (Truncated packet) = codes "packet " ++ decimal packet ++ codes " is cut short"
-pcap_fault_text (TimeRange packet) = codes "time of packet " ++ decimal packet ++ codes " out of range"
-pcap_fault_text (TooLong packet) = codes "packet " ++ decimal packet ++ codes " is too long"
-pcap_fault_text TooMany = codes "too many packets"
-
 -- the line of a status; done has none
 unfoldable pub status_text : Status → List ℕ
 status_text Done = []
-status_text NoMemory = line (codes "no memory")
-status_text (BadWords fault) = line (words_fault_text fault)
-status_text (BadTrace fault) = line (codes "trace: " ++ pcap_fault_text fault)
-status_text (ReadFault role) = line (codes "cannot read " ++ role_name role)
-status_text (WriteFault role) = line (codes "cannot write " ++ role_name role)
-status_text (TooLarge role) = line (role_name role ++ codes " is too large")
+status_text NoMemory = program_line (codes "no memory")
+status_text (BadWords fault) = program_line (words_fault_text fault)
+status_text (BadTrace fault) = program_line (codes "trace: " ++ pcap_fault_text fault)
+status_text (ReadFault role) = program_line (codes "cannot read " ++ role_name role)
+status_text (WriteFault role) = program_line (codes "cannot write " ++ role_name role)
+status_text (TooLarge role) = program_line (role_name role ++ codes " is too large")

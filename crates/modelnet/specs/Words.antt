@@ -1,6 +1,7 @@
 -- What a command line asks for, or its first fault. A word is the list of its bytes.
 use denote.Ref.{Bor}
 use Rattle.std.specs.Prelude.{ℕ, map, List, [], ◌∷◌, Option, Some, None, Result, Ok, Err, ok_or, bytes_eq, codes, if◌then◌else◌}
+use Rattle.mn_base.specs.declared.limits.TheConstants.{TICK_NS_MIN, TICK_NS_MAX, TICK_NS_DEFAULT}
 use Rattle.mn_base.specs.Decimal.{decimal_of}
 use Rattle.modelnet.specs.declared.order.Order.{Order}
 use Rattle.modelnet.specs.declared.order.Order.TheVariants.{Chain}
@@ -21,10 +22,10 @@ abbrev pub seed_of : Option (List ℕ) → Option ℕ
 seed_of None = Some 0
 seed_of (Some text) = decimal_of text
 
--- the tick length, in ns; 100,000 where the option is left out
+-- the tick length, in ns; the usual one where the option is left out
 abbrev pub tick_of : Option (List ℕ) → Option ℕ
-tick_of None = Some 100000
-tick_of (Some text) = number_within 1000 10000000 text
+tick_of None = Some TICK_NS_DEFAULT
+tick_of (Some text) = number_within TICK_NS_MIN TICK_NS_MAX text
 
 -- what parted words ask for, or the first option whose value is out of its range
 unfoldable pub valued : PartedWords → Result ChainView WordsFault

@@ -24,13 +24,7 @@ pub fn chain<H: Host>(
     requires limits { AreWithinUsual limits.now }
     ensures { Answered (chain_command limits.now order.now) (H.part host.old) (H.part host.new) (status_of result) }
 {
-    let trace = read_input(
-        alloc,
-        host,
-        Role::Trace,
-        order.trace.as_str(),
-        limits.trace,
-    )?;
+    let trace = read_input(alloc, host, Role::Trace, order.trace.as_str(), limits.trace)?;
     let texts = chain_texts(alloc, order, trace.as_slice())?;
     write_trace(host, Role::Out, order.out.as_str(), &texts.out)?;
     write_output(

@@ -1,13 +1,14 @@
 ghost use Rattle.std.specs.Prelude.{◌≡◌, ◌≤◌, ℕ, length, map, All, IfOk};
 ghost use Rattle.std.specs.List.{AllZip, range_with_len};
-ghost use Rattle.mn_base.specs.Times.{base_of};
+ghost use Rattle.mn_base.specs.Ranges.{IsTickLength};
 ghost use Rattle.pcap_io.specs.Capture.{IsRecordTime, IsTrace};
 ghost use Rattle.modelnet.specs.Order.{IsPipeSpec, IsOrder};
 ghost use Rattle.modelnet.specs.Chain.{IsPipeOf, IsChainSetup, plans_of};
 
 use crate::order::{ChainOrder, PipeSpec};
 use journal::{PacketPlan, Setup, SetupParts};
-use mn_base::{NoMemory, PipeParams, keep_of_ppm};
+use mn_base::limits::{CHAIN_PIPES_MAX, PACKETS_MAX};
+use mn_base::{NoMemory, PipeParams, entry_tick, keep_of_ppm};
 use pcap_io::{Packet, Trace};
 use std::alloc::Global;
 
@@ -27,7 +28,7 @@ fn chain_parts(alloc: Global, order: &ChainOrder, trace: &Trace) -> Result<Setup
     ensures { IfOk result (IsChainSetup order.now trace.now) }
 {
     let packets = trace.packets();
-    let base_ns = time_base(packets);
+    let base_ns = trace.time_base();
     let route = chain_route(alloc, order.pipes.len())?;
     let mut routes = Vec::new(alloc);
     routes.push(route)?;
@@ -44,24 +45,8 @@ fn chain_parts(alloc: Global, order: &ChainOrder, trace: &Trace) -> Result<Setup
     })
 }
 
-/// The least time of all records, in ns, or 0 where there is none.
-fn time_base(packets: &[Packet]) -> u64
-    ensures value { result ≡ base_of (map (λ p. p.time_ns) packets.now) }
-    ensures least { All (λ p. result ≤ p.time_ns) packets.now }
-{
-    let Some((first, others)) = packets.split_first() else {
-        return 0;
-    };
-    let mut least = first.time_ns;
-    for packet in others {
-        least = least.min(packet.time_ns);
-    }
-    least
-}
-
 fn chain_pipes(alloc: Global, pipes: &[PipeSpec], tick_ns: u64) -> Result<Vec<PipeParams>, NoMemory>
-    requires tick_least { 1000 ≤ tick_ns }
-    requires tick_most { tick_ns ≤ 10000000 }
+    requires tick { IsTickLength tick_ns }
     requires pipes { All IsPipeSpec pipes.now }
     ensures { IfOk result (λ params. AllZip (IsPipeOf tick_ns) pipes.now params.items) }
 {
@@ -81,7 +66,7 @@ fn chain_pipes(alloc: Global, pipes: &[PipeSpec], tick_ns: u64) -> Result<Vec<Pi
 
 /// The route through all of so many pipes, in order.
 fn chain_route(alloc: Global, pipes: usize) -> Result<Vec<u32>, NoMemory>
-    requires { pipes ≤ 16 }
+    requires { pipes ≤ CHAIN_PIPES_MAX }
     ensures { IfOk result (λ route. route.items ≡ range_with_len 0 pipes) }
 {
     let mut route = Vec::new(alloc);
@@ -99,7 +84,7 @@ fn packet_plans(
     tick_ns: u64,
 ) -> Result<Vec<PacketPlan>, NoMemory>
     requires tick { 1 ≤ tick_ns }
-    requires few { length packets.now ≤ 1048576 }
+    requires few { length packets.now ≤ PACKETS_MAX }
     requires base { All (λ p. base_ns ≤ p.time_ns) packets.now }
     ensures { IfOk result (λ plans. plans.items ≡ plans_of base_ns tick_ns packets.now) }
 {
@@ -107,7 +92,7 @@ fn packet_plans(
     for (number, packet) in packets.iter().enumerate() {
         plans.push(PacketPlan {
             number: number as u32,
-            entry_tick: (packet.time_ns - base_ns) / tick_ns,
+            entry_tick: entry_tick(base_ns, tick_ns, packet.time_ns),
             len: packet.original,
             route: 0,
             core: 0,

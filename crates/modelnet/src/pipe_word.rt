@@ -1,5 +1,5 @@
 ghost use Rattle.std.specs.Prelude.{◌≡◌, ◌≤◌, [], ◌∷◌, IfSome, MatchOption, None};
-ghost use Rattle.modelnet.specs.PipeWord.{number_within, fields_of, pipe_of};
+ghost use Rattle.modelnet.specs.PipeWord.{number_within, fields_of, pipe_spec_of};
 ghost use Rattle.modelnet.specs.Order.{IsPipeSpec};
 
 use crate::order::PipeSpec;
@@ -24,9 +24,9 @@ pub fn number_within(text: &str, least: u64, most: u64) -> Option<u64>
 /// The pipe that a word `BPS:LATENCY_US:QUEUE:PPM` names: four plain decimals in the ranges of a link.
 ///
 /// `8000000:5000:50:0` has 8 Mbit/s, 5 ms, room for 50 packets and no loss.
-#[tactic(auto, unfolding(crate::specs::PipeWord::pipe_of, crate::specs::PipeWord::pipe_of_fields))]
-pub fn pipe_of(word: &str) -> Option<PipeSpec>
-    ensures value { result ≡ pipe_of word.now }
+#[tactic(auto, unfolding(crate::specs::PipeWord::pipe_spec_of, crate::specs::PipeWord::pipe_of_fields))]
+pub fn pipe_spec_of(word: &str) -> Option<PipeSpec>
+    ensures value { result ≡ pipe_spec_of word.now }
     ensures ranges { IfSome result IsPipeSpec }
 {
     let fields = fields_of(word)?;
@@ -53,7 +53,7 @@ struct Fields<'w> {
 
 #[tactic(auto, using(crate::proofs::PipeFields::counts))]
 fn fields_of(word: &str) -> Option<Fields<'_>>
-    ensures { MatchOption result (pipe_of word.now ≡ None)
+    ensures { MatchOption result (pipe_spec_of word.now ≡ None)
         (λ f. fields_of word.now ≡ f.bps.now ∷ f.latency_us.now ∷ f.queue.now ∷ f.ppm.now ∷ []) }
 {
     let (bps, rest) = first_field(word)?;

@@ -1,11 +1,10 @@
 ghost use Rattle.std.specs.Prelude.{◌≡◌, string_bytes, IfOk};
-ghost use Rattle.modelnet.specs.StatusTexts.{opt_name, role_name, words_fault_text, pcap_fault_text, status_text};
+ghost use Rattle.modelnet.specs.StatusTexts.{opt_name, role_name, words_fault_text, status_text};
 
 use crate::status::Status;
 use crate::words_fault::{Opt, WordsFault};
 use mn_base::{Bytes, NoMemory};
 use mn_edge::Role;
-use pcap_io::PcapFault;
 use std::alloc::{AllocError, Global};
 
 /// The line that tells how a command ended, with a line feed at its end. `Done` has no line, and its text is empty.
@@ -29,10 +28,7 @@ fn line_of(alloc: Global, status: Status) -> Result<String, AllocError>
             let text = words_fault_text(alloc, fault)?;
             format!(in alloc; "modelnet: {text}\n")
         }
-        Status::BadTrace(fault) => {
-            let text = pcap_fault_text(alloc, fault)?;
-            format!(in alloc; "modelnet: trace: {text}\n")
-        }
+        Status::BadTrace(fault) => format!(in alloc; "modelnet: trace: {fault}\n"),
         Status::ReadFault(role) => {
             let role = role_name(role);
             format!(in alloc; "modelnet: cannot read {role}\n")
@@ -59,22 +55,6 @@ fn words_fault_text(alloc: Global, fault: WordsFault) -> Result<String, AllocErr
             let name = opt_name(opt);
             format!(in alloc; "bad value of {name}")
         }
-    }
-}
-
-#[tactic(auto, unfolding(crate::specs::StatusTexts::pcap_fault_text))]
-fn pcap_fault_text(alloc: Global, fault: PcapFault) -> Result<String, AllocError>
-    ensures { IfOk result (λ text. string_bytes text ≡ pcap_fault_text fault) }
-{
-    match fault {
-        PcapFault::NotPcap => String::from_str(alloc, "not pcap"),
-        PcapFault::ShortHeader => String::from_str(alloc, "short header"),
-        PcapFault::Version(number) => format!(in alloc; "version {number}"),
-        PcapFault::LinkType(number) => format!(in alloc; "link type {number}"),
-        PcapFault::Truncated(packet) => format!(in alloc; "packet {packet} is cut short"),
-        PcapFault::TimeRange(packet) => format!(in alloc; "time of packet {packet} out of range"),
-        PcapFault::TooLong(packet) => format!(in alloc; "packet {packet} is too long"),
-        PcapFault::TooMany => String::from_str(alloc, "too many packets"),
     }
 }
 

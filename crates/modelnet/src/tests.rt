@@ -1,12 +1,26 @@
+// Out of memory may stand in the place of any answer, and no contract can rule that out. So each status that a command has
+// comes in a test here, with memory:
+//
+// | status | `chain` |
+// |---|---|
+// | Done | one_packet_leaves_at_tick_60 |
+// | BadWords | words_that_are_no_order_are_refused |
+// | BadTrace | a_cut_record_is_refused_and_nothing_is_written |
+// | ReadFault(Trace) | a_failed_read_is_named_by_its_role |
+// | WriteFault(Out) | a_failed_write_leaves_a_front_of_the_output_trace |
+// | WriteFault(Report) | a_failed_write_of_the_report_leaves_the_output_trace_whole |
+// | TooLarge(Trace) | a_trace_above_its_limit_is_too_large |
 ghost use Rattle.std.specs.Prelude.{◌≡◌, ◌≤◌, false};
 ghost use Rattle.mn_edge.specs.declared.role.Role.{Role};
 ghost use Rattle.mn_edge.specs.MemoryHostView.{stream_of};
 
 mod bursts;
 
-use crate::plain::plain;
+use crate::plain::{plain, plain_within};
+use crate::read_limits::ReadLimits;
 use crate::status::Status;
 use crate::words_fault::{Opt, WordsFault};
+use mn_base::limits::TRACE_BYTES_MAX;
 use mn_edge::{Fail, MemoryHost, Op, RealHost, Role};
 use pcap_io::PcapFault;
 use std::fs;
@@ -212,7 +226,7 @@ fn packets_out_of_time_order_enter_by_their_times(rt: HostRuntime) {
     assert_writes(&rt, ONE_PIPE, &BIG_ENDIAN, &BIG_ENDIAN_OUT, report);
 }
 
-/// Runs a command line over a host whose calls may fail, and compares how it ends and what stands in the trace out.
+/// Runs a command line over a host whose calls may fail, and compares how it ends and what stands in the output trace.
 fn assert_stops(
     rt: &(impl Abort + AllocGlobal),
     line: &str,
@@ -253,7 +267,7 @@ fn words_that_are_no_order_are_refused(rt: HostRuntime) {
 }
 
 #[test]
-fn a_failed_write_leaves_a_front_of_the_trace_out(rt: HostRuntime) {
+fn a_failed_write_leaves_a_front_of_the_output_trace(rt: HostRuntime) {
     let second = Fail {
         role: Role::Out,
         op: Op::Write,
@@ -262,6 +276,33 @@ fn a_failed_write_leaves_a_front_of_the_trace_out(rt: HostRuntime) {
     let status = Status::WriteFault(Role::Out);
     assert_stops(&rt, ONE_PIPE, &ONE_PACKET, &[second], 4_096, status, 8);
     assert_stops(&rt, ONE_PIPE, &ONE_PACKET, &[], 8, status, 8);
+}
+
+#[test]
+fn a_failed_write_of_the_report_leaves_the_output_trace_whole(rt: HostRuntime) {
+    let first = Fail {
+        role: Role::Report,
+        op: Op::Write,
+        k: 0,
+    };
+    let status = Status::WriteFault(Role::Report);
+    assert_stops(&rt, ONE_PIPE, &ONE_PACKET, &[first], 4_096, status, 44);
+}
+
+/// How the chain of one pipe ends on its capture of 44 bytes, where so many bytes of a trace are read at most.
+fn status_within(rt: &(impl Abort + AllocGlobal), limit: usize) -> Status
+    requires { limit ≤ TRACE_BYTES_MAX }
+{
+    let words = words_in(rt, ONE_PIPE);
+    let mut host = host(rt, &ONE_PACKET, &[], 8, 4_096);
+    let limits = ReadLimits { trace: limit };
+    plain_within(rt.alloc(), &limits, &words, &mut host)
+}
+
+#[test]
+fn a_trace_above_its_limit_is_too_large(rt: HostRuntime) {
+    assert_eq!(rt; status_within(&rt, 44), Status::Done);
+    assert_eq!(rt; status_within(&rt, 43), Status::TooLarge(Role::Trace));
 }
 
 #[test]
@@ -296,7 +337,7 @@ fn files_are_read_and_written(rt: HostRuntime) {
     let mut host = RealHost::new(rt);
     let status = plain(rt.alloc(), &words, &mut host);
     assert_eq!(rt; status, Status::Done);
-    let out = fs::read(&rt, "chain_out.pcap").expect(&rt, "the trace out");
+    let out = fs::read(&rt, "chain_out.pcap").expect(&rt, "the output trace");
     assert_eq!(rt; out.as_slice(), ONE_PACKET_OUT.as_slice());
     let report = fs::read(&rt, "chain.txt").expect(&rt, "the report");
     assert_eq!(rt; report.as_slice(), ONE_PACKET_REPORT.as_bytes());

@@ -8,7 +8,7 @@ ghost use Rattle.modelnet.specs.Words.{chain_of, ordered, seed_of, tick_of, text
 
 use crate::cursor::Rest;
 use crate::order::{ChainOrder, FileName, Order, PipeSpec};
-use crate::pipe_word::{number_within, pipe_of};
+use crate::pipe_word::{number_within, pipe_spec_of};
 use crate::words_fault::{Opt, WordsFault};
 use mn_base::limits::{CHAIN_PIPES_MAX, TICK_NS_DEFAULT, TICK_NS_MAX, TICK_NS_MIN};
 use mn_base::{Refusal, read_u64};
@@ -23,7 +23,7 @@ use std::marker::Model;
 ///
 /// # Errors
 ///
-/// `Command` where there is no word or the first isn't a command; `Form` where the words behind it aren't such options and
+/// `Command` where there is no word or the first isn't a command; `Form` where the words after it aren't such options and
 /// then PIPEs, none of which begins with `--`; `Value` of the seed, else of the tick length, else of the PIPEs, where it is
 /// out of its range.
 #[tactic(auto, unfolding(crate::specs::Words::ordered, crate::specs::Words::chain_order))]
@@ -43,7 +43,7 @@ pub fn read_words(alloc: Global, words: &[&str]) -> Result<Order, Refusal<WordsF
     Ok(Order::Chain(order))
 }
 
-/// What the words behind `chain` ask for.
+/// What the words after `chain` ask for.
 #[tactic(auto, unfolding(crate::specs::Words::chain_of))]
 fn chain_of(alloc: Global, words: Rest) -> Result<ChainOrder, Refusal<WordsFault>>
     ensures order { IfOk result (λ order. chain_of words.entry ≡ Ok order) }
@@ -56,7 +56,7 @@ fn chain_of(alloc: Global, words: Rest) -> Result<ChainOrder, Refusal<WordsFault
     valued(alloc, options)
 }
 
-/// The words behind `chain`.
+/// The words after `chain`.
 #[derive(Drop)]
 struct ChainWords<'a, 'w> {
     trace: &'w str,
@@ -145,8 +145,8 @@ fn seed_of(text: Option<&str>) -> Option<u64>
 
 fn tick_of(text: Option<&str>) -> Option<u64>
     ensures value { result ≡ tick_of (option_copied text.entry) }
-    ensures least { IfSome result (λ tick_ns. 1000 ≤ tick_ns) }
-    ensures most { IfSome result (λ tick_ns. tick_ns ≤ 10000000) }
+    ensures least { IfSome result (λ tick_ns. TICK_NS_MIN ≤ tick_ns) }
+    ensures most { IfSome result (λ tick_ns. tick_ns ≤ TICK_NS_MAX) }
 {
     match text {
         None => Some(TICK_NS_DEFAULT),
@@ -158,7 +158,7 @@ fn chain_pipes(alloc: Global, mut words: Rest) -> Result<Vec<PipeSpec>, Refusal<
     ensures pipes { IfOk result (λ pipes. chain_pipes words.entry ≡ Some pipes.items) }
     ensures ranges { IfOk result (λ pipes. All IsPipeSpec pipes.items) }
     ensures count { IfOk result (λ pipes. length pipes.items ≡ length words.entry) }
-    ensures most { IfOk result (λ pipes. length pipes.items ≤ 16) }
+    ensures most { IfOk result (λ pipes. length pipes.items ≤ CHAIN_PIPES_MAX) }
     ensures fault { IfErr result (λ e. IfFault e (λ fault. (fault ≡ WordsFault.Value Opt.Pipe) × (chain_pipes words.entry ≡ None))) }
 {
     if words.len() > CHAIN_PIPES_MAX {
@@ -166,7 +166,7 @@ fn chain_pipes(alloc: Global, mut words: Rest) -> Result<Vec<PipeSpec>, Refusal<
     }
     let mut pipes = Vec::new(alloc);
     'words: while let Some(word) = words.next() {
-        let Some(pipe) = pipe_of(word) else {
+        let Some(pipe) = pipe_spec_of(word) else {
             return Err(Refusal::Fault(WordsFault::Value(Opt::Pipe)));
         };
         pipes.push(pipe)?;

@@ -1,6 +1,6 @@
 use Rattle.std.proofs.Common.{length, map, sym, ◌∙◌, ap, subst}
 use Rattle.std.proofs.lemmas.List.{length-map}
-use Rattle.modelnet.specs.Chain.{trace_base}
+use Rattle.pcap_io.specs.Capture.{trace_base}
 use Rattle.modelnet.proofs.ChainSetup.{is_setup, length-plans}
 use Rattle.modelnet.proofs.Outputs.{CanBeWritten, can_be_written}
 use Rattle.modelnet.proofs.run.run_chain.Goals as goal
