@@ -3,19 +3,19 @@ use Rattle.std.proofs.Common.{◌≡◌, ◌≢◌, ◌⊎◌, ℕ, List, [], �
 use Rattle.mn_base.specs.declared.refusal.Refusal.{Refusal}
 use Rattle.mn_base.specs.declared.refusal.Refusal.TheVariants as refusal
 use Rattle.mn_base.specs.Refused.{IfFault}
-use Rattle.mn_edge.specs.declared.role.Role.TheVariants.{Topology, Trace, Directory, Out, Report, Screen}
+use Rattle.mn_edge.specs.declared.role.Role.TheVariants.{Trace, Out, Report}
 use Rattle.pcap_io.specs.declared.fault.PcapFault.{PcapFault}
 use Rattle.pcap_io.specs.Faults.{PcapFirst}
 use Rattle.modelnet.specs.declared.read_limits.ReadLimits.{ReadLimits}
 use Rattle.modelnet.specs.declared.status.Status.{Status}
 use Rattle.modelnet.specs.declared.status.Status.TheVariants.{Done, NoMemory}
 use Rattle.modelnet.specs.Order.{ChainView}
-use Rattle.modelnet.specs.Roles.{Input, Output, input, output, ReadsInput, WritesOutput, WasWritten}
-use Rattle.modelnet.specs.Commands.{Host, Command, Answered}
+use Rattle.modelnet.specs.Roles.{Input, input, output, ReadsInput, WritesOutput}
+use Rattle.modelnet.specs.Commands.{Host, Answered}
 use Rattle.modelnet.specs.Run.{SaysRun}
 use Rattle.modelnet.specs.Statuses.{trace_refusal}
 use Rattle.modelnet.specs.TheCommands.{chain_refuses, chain_command}
-use Rattle.modelnet.proofs.OneAfterAnother.{Others, HasRead, HasWritten, has_begun, has_read, stops_reading, refuses, has_made, has_written, stops_writing, is_done}
+use Rattle.modelnet.proofs.OneAfterAnother.{Others, HasWritten, has_begun, has_read, stops_reading, refuses, has_made, has_written, stops_writing, is_done}
 use Rattle.modelnet.proofs.Sound.{chain_is_sound}
 
 -- the trace can't be read whole

@@ -1,10 +1,7 @@
 -- Steps of the loops that make the setup of a chain.
-use Rattle.std.proofs.Common.{zero, suc, ◌≡◌, ◌≤◌, ◌<◌, ◌+◌, ◌++◌, ℕ, List, [], ◌∷◌, length, take, get_or, map, min, All, sym, ◌∙◌, ap, arith, add-one, add-zero, zero-add}
-use Rattle.std.specs.List.{fold, AllZip, enumerate_from, range_with_len}
+use Rattle.std.proofs.Common.{zero, suc, ◌≡◌, ◌<◌, ◌+◌, ◌++◌, ℕ, List, [], ◌∷◌, length, take, get_or, map, sym, ◌∙◌, ap, arith, add-one, add-zero, zero-add}
+use Rattle.std.specs.List.{AllZip, enumerate_from, range_with_len}
 use Rattle.std.proofs.lemmas.List.{take_more, length-take-le, map-append}
-use Rattle.std.proofs.lemmas.List.Elements.{All-more}
-use Rattle.std.proofs.lemmas.List.Sums.{fold_more}
-use Rattle.std.proofs.lemmas.List.Folds.{fold-map}
 use Rattle.pcap_io.specs.declared.packet.Packet.{Packet}
 use Rattle.modelnet.specs.Chain.{plan_of, plans_of}
 

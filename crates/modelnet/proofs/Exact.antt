@@ -1,15 +1,13 @@
 -- Each answer excludes the causes of the others, so that a cause has its answer, whatever command it is.
-use Rattle.std.proofs.Common.{◌≡◌, ◌⊎◌, ◌≤◌, ◌<◌, ◌++◌, ℕ, List, [], ◌∷◌, length, Option, Some, None, refl, sym, ◌∙◌, ap, subst, inl, inr, arith}
+use Rattle.std.proofs.Common.{◌≡◌, ◌≤◌, ◌++◌, ℕ, List, [], ◌∷◌, length, Option, Some, None, refl, sym, ◌∙◌, ap, subst, inl, inr, arith}
 use Rattle.std.proofs.lemmas.List.{length-append, append-nil}
 use Rattle.std.specs.Io.KnownBytes.{prepend_known, IsAtEnd}
-use Rattle.mn_base.specs.Causes.{Rose}
-use Rattle.mn_edge.specs.declared.role.Role.{Role}
 use Rattle.mn_edge.specs.Part.{Part}
 use Rattle.modelnet.specs.declared.status.Status.{Status}
 use Rattle.modelnet.specs.declared.status.Status.TheVariants.{Done, NoMemory, BadWords, BadTrace, ReadFault, WriteFault, TooLarge}
 use Rattle.modelnet.specs.Roles.{Input, WasRead, IsReading}
 use Rattle.modelnet.specs.Commands.{Host, Command, ReadInputs, inputs_of, bytes_read, AreRead, Passes, IsRefused, Answered}
-use Rattle.modelnet.specs.Exact.{IsQuiet, MustAnswer, IsSound}
+use Rattle.modelnet.specs.Exact.{MustAnswer, IsSound}
 
 -- the bytes that were read to the end are all that was told
 whole_bytes : (name bytes told : List ℕ) (old new : Part) → WasRead name bytes old new → old.left ≡ Some told → told ≡ bytes

@@ -1,5 +1,5 @@
 -- A chain makes one output trace and one report of a trace.
-use Rattle.std.proofs.Common.{◌≡◌, ◌≤◌, ℕ, List, [], ◌∷◌, length, map, refl, sym, ap, subst, ◌∙◌}
+use Rattle.std.proofs.Common.{◌≡◌, ◌≤◌, ℕ, List, [], ◌∷◌, map, refl, sym, ap, subst, ◌∙◌}
 use Rattle.std.specs.List.{AllZip}
 use Rattle.std.proofs.Math.Bridge.{le_prop}
 use Rattle.mn_base.specs.declared.params.PipeParams.{PipeParams}

@@ -1,5 +1,5 @@
 -- The commands are sound, and so a command line is answered exactly.
-use Rattle.std.proofs.Common.{◌≡◌, ◌⊎◌, ℕ, List, [], ◌∷◌, ◌++◌, Ok, Err, Result, refl, sym, ◌∙◌, ap, subst, inl, inr}
+use Rattle.std.proofs.Common.{◌≡◌, ℕ, List, [], ◌∷◌, ◌++◌, Ok, Err, refl, sym, ◌∙◌, ap, subst, inl, inr}
 use Rattle.pcap_io.specs.declared.fault.PcapFault.{PcapFault}
 use Rattle.pcap_io.proofs.OneReading.{no_fault, one_fault}
 use Rattle.modelnet.specs.declared.order.Order.{Order}
@@ -10,7 +10,7 @@ use Rattle.modelnet.specs.declared.status.Status.TheVariants.{Done, NoMemory, Ba
 use Rattle.modelnet.specs.declared.words_fault.WordsFault.{WordsFault}
 use Rattle.modelnet.specs.Order.{ChainView}
 use Rattle.modelnet.specs.Commands.{Host, ReadsNot, Answered}
-use Rattle.modelnet.specs.Exact.{IsRefusal, IsSound, IsOrNoMemory, MustAnswer}
+use Rattle.modelnet.specs.Exact.{IsRefusal, IsSound, IsOrNoMemory}
 use Rattle.modelnet.specs.TheCommands.{chain_refuses, chain_writes, chain_command, command_of}
 use Rattle.modelnet.specs.Answers.{IsOrdered, Answers, IsExact, WordsAndBytesHaveOneOutcome}
 use Rattle.modelnet.specs.Words.{ordered}

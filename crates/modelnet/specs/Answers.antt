@@ -1,5 +1,5 @@
 -- What stands after each answer of a command line, and which answer it has to be.
-use Rattle.std.specs.Prelude.{◌≡◌, ℕ, List, [], Result, Ok, Err}
+use Rattle.std.specs.Prelude.{◌≡◌, ℕ, List, [], Ok, Err}
 use Rattle.mn_edge.specs.declared.role.Role.{Role}
 use Rattle.modelnet.specs.declared.order.Order.{Order}
 use Rattle.modelnet.specs.declared.read_limits.ReadLimits.{ReadLimits}

@@ -1,5 +1,5 @@
 -- The commands: the roles of each, and what it makes of its bytes.
-use Rattle.std.specs.Prelude.{◌≡◌, ◌≤◌, ℕ, List, [], ◌∷◌}
+use Rattle.std.specs.Prelude.{◌≤◌, ℕ, List, [], ◌∷◌}
 use Rattle.mn_base.specs.declared.limits.TheConstants.{TRACE_BYTES_MAX}
 use Rattle.mn_edge.specs.declared.role.Role.TheVariants.{Trace, Out, Report}
 use Rattle.pcap_io.specs.Faults.{PcapFirst}

@@ -1,8 +1,8 @@
-use Rattle.std.proofs.Common.{◌≡◌, ◌∙◌, Err, Result, refl, ap, rules}
+use Rattle.std.proofs.Common.{◌≡◌, ◌∙◌, Err, refl, ap, rules}
 use Rattle.pcap_io.specs.Writing.{pcap_text}
 use Rattle.modelnet.specs.Order.{ChainView}
 use Rattle.modelnet.specs.Statuses.{trace_refusal}
-use Rattle.modelnet.proofs.ChainSteps.{HasTrace, HasRun, HasOut, trace_stops, trace_refused, out_stops, report_stops, all_done}
+use Rattle.modelnet.proofs.ChainSteps.{HasRun, HasOut, trace_stops, trace_refused, out_stops, report_stops, all_done}
 use Rattle.modelnet.proofs.chain.chain.Goals as goal
 
 pub returns-in_err-trace : goal.returns-in_err-trace
