@@ -1,13 +1,14 @@
-// A library with one function.
+//! The payloads of the packets that entered at one core: held until the packet is settled, and each handed out once.
+//! It stands on mn_base.
+//! Its contracts speak in what is held and in what was released, in order (specs/StoreView.antt).
 #![tactic(auto)]
 
-ghost use Rattle.std.specs.Prelude.{◌≡◌};
-ghost use Rattle.payload_store.specs.Echo.{echo_of};
+pub mod laws;
+mod payload;
+mod store;
 
-// The `ensures` clause is the contract: what `echo` returns is `echo_of` of its argument, a definition
-// in `specs/Echo.antt`, which a caller's clause can cite too.
-pub fn echo(x: usize) -> usize
-    ensures { result ≡ echo_of x }
-{
-    x
-}
+pub use payload::Payload;
+pub use store::Store;
+
+#[cfg(test)]
+mod tests;
