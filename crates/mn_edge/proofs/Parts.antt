@@ -6,12 +6,14 @@ use Rattle.mn_edge.specs.Part.{Part, Takes, Adds}
 use Rattle.mn_edge.specs.Whole.{AddsWhole, AddsFront}
 
 -- what is put before known bytes in two steps is put there at once
-pub prepend_known-prepend_known : (xs ys : List ℕ) (known : Option (List ℕ)) → prepend_known xs (prepend_known ys known) ≡ prepend_known (xs ++ ys) known
+pub prepend_known-prepend_known : (xs ys : List ℕ) (known : Option (List ℕ))
+    → prepend_known xs (prepend_known ys known) ≡ prepend_known (xs ++ ys) known
 prepend_known-prepend_known xs ys None = refl
 prepend_known-prepend_known xs ys (Some zs) = simp append_assoc
 
 -- what is put after known bytes in two steps is put there at once
-pub append_known-append_known : (known : Option (List ℕ)) (xs ys : List ℕ) → append_known (append_known known xs) ys ≡ append_known known (xs ++ ys)
+pub append_known-append_known : (known : Option (List ℕ)) (xs ys : List ℕ)
+    → append_known (append_known known xs) ys ≡ append_known known (xs ++ ys)
 append_known-append_known None xs ys = refl
 append_known-append_known (Some zs) xs ys = simp append_assoc
 
@@ -35,7 +37,11 @@ Takes-append a b c xs ys first second =
 
 -- nothing was added to a part that is as it was
 pub Adds-nil : (p : Part) → Adds [] p p
-Adds-nil p = record { later = omega arith; same = ap (λ (bytes : Option (List ℕ)). record p { written = bytes }) (sym (append_known-nil p.written)) }
+Adds-nil p = record {
+  later = omega arith;
+  same = ap (λ (bytes : Option (List ℕ)). record p { written = bytes })
+      (sym (append_known-nil p.written));
+}
 
 -- two adds are one
 pub Adds-append : (a b c : Part) (xs ys : List ℕ) → Adds xs a b → Adds ys b c → Adds (xs ++ ys) a c
@@ -52,7 +58,8 @@ pub Takes-active : (a b : Part) (xs : List ℕ) → Takes xs a b → b.active �
 Takes-active a b xs taken = cc
 
 -- a text that was written, and then a whole write
-pub AddsWhole-then : (a b c : Part) (text more : List ℕ) (result : Result (Unit {0}) WriteFault) → Adds text a b → AddsWhole more b c result → AddsWhole (text ++ more) a c result
+pub AddsWhole-then : (a b c : Part) (text more : List ℕ) (result : Result (Unit {0}) WriteFault) → Adds text a b
+    → AddsWhole more b c result → AddsWhole (text ++ more) a c result
 AddsWhole-then a b c text more (Ok _) first second = Adds-append a b c text more first second
 AddsWhole-then a b c text more (Err _) first second =
     let cut = second.0 in (

@@ -52,7 +52,8 @@ impl MemoryHost {
     ) -> Result<MemoryHost, NoMemory>
         requires { 1 ≤ piece }
         ensures roles { IfOk result (λ host. (role : Role) →
-            stream_of host role ≡ unused_stream (given_bytes topology.now trace.now directory.now role) (if is_input role then 0 else room)) }
+            stream_of host role
+            ≡ unused_stream (given_bytes topology.now trace.now directory.now role) (if is_input role then 0 else room)) }
         ensures inactive { IfOk result (λ host. (role : Role) → (stream_of host role).active ≡ false) }
         ensures fails { IfOk result (λ host. host.fails ≡ fails.now) }
         ensures piece { IfOk result (λ host. host.piece ≡ piece) }

@@ -47,12 +47,15 @@ no_packet = record { time_ns = 0; original = 0; bytes = [] }
 pub length-plans : (base tick_ns : ℕ) (packets : List Packet) → length (plans_of base tick_ns packets) ≡ length packets
 length-plans base tick_ns packets = length-map (enumerate_from 0 packets) (plan_of base tick_ns) ∙ length-enumerate_from 0 packets
 
-pub plan-at : (base tick_ns : ℕ) (packets : List Packet) (k : ℕ) (d : PacketPlan) → k < length packets → get_or (plans_of base tick_ns packets) k d ≡ plan_of base tick_ns (k, get_or packets k no_packet)
+pub plan-at : (base tick_ns : ℕ) (packets : List Packet) (k : ℕ) (d : PacketPlan) → k < length packets
+    → get_or (plans_of base tick_ns packets) k d ≡ plan_of base tick_ns (k, get_or packets k no_packet)
 plan-at base tick_ns packets k d within =
     get_or-map (plan_of base tick_ns) (enumerate_from 0 packets) k (k, no_packet) d (rw (length-enumerate_from 0 packets) within)
-    ∙ ap (plan_of base tick_ns) (get_or-enumerate_from 0 packets k (k, no_packet) within ∙ ap (λ n. (n, get_or packets k no_packet)) (zero-add k))
+    ∙ ap (plan_of base tick_ns) (get_or-enumerate_from 0 packets k (k, no_packet) within ∙ ap (λ n. (n, get_or packets k no_packet))
+    (zero-add k))
 
-pub All-plans : (P : PacketPlan → Type 0) (base tick_ns : ℕ) (packets : List Packet) → ((k : ℕ) → k < length packets → P (plan_of base tick_ns (k, get_or packets k no_packet))) → All P (plans_of base tick_ns packets)
+pub All-plans : (P : PacketPlan → Type 0) (base tick_ns : ℕ) (packets : List Packet)
+    → ((k : ℕ) → k < length packets → P (plan_of base tick_ns (k, get_or packets k no_packet))) → All P (plans_of base tick_ns packets)
 All-plans P base tick_ns packets each k d within =
     let inside : k < length packets = rw (length-plans base tick_ns packets) at within in
     subst P (sym (plan-at base tick_ns packets k d inside)) (each k inside)
@@ -64,7 +67,8 @@ plans_rise base tick_ns packets i j d before within =
 
 -- latencies in ticks are those of the microseconds
 
-pub usual_latencies : (tick_ns : ℕ) (pipes : List PipeSpec) (params : List PipeParams) → AllZip (IsPipeOf tick_ns) pipes params → All (λ p. p.latency_ticks ≡ latency_in_ticks p.latency_us tick_ns) params
+pub usual_latencies : (tick_ns : ℕ) (pipes : List PipeSpec) (params : List PipeParams) → AllZip (IsPipeOf tick_ns) pipes params
+    → All (λ p. p.latency_ticks ≡ latency_in_ticks p.latency_us tick_ns) params
 usual_latencies tick_ns [] [] same = λ k d within. absurd (omega arith)
 usual_latencies tick_ns [] (p ∷ params) same = absurd same
 usual_latencies tick_ns (pipe ∷ pipes) [] same = absurd same
@@ -75,7 +79,8 @@ usual_latencies tick_ns (pipe ∷ pipes) (p ∷ params) same =
 
 -- the conditions, one by one
 
-pub is_setup : (order : ChainView) (trace : Capture) (S : SetupView) → IsOrder order → IsTrace trace → All (λ p. IsRecordTime p.time_ns) trace.packets → IsChainSetup order trace S → IsSetup S
+pub is_setup : (order : ChainView) (trace : Capture) (S : SetupView) → IsOrder order → IsTrace trace
+    → All (λ p. IsRecordTime p.time_ns) trace.packets → IsChainSetup order trace S → IsSetup S
 is_setup order trace S o t times c = record {
   tick_least = rw c.tick_ns o.tick.0;
   tick_most = rw c.tick_ns o.tick.1;
@@ -84,22 +89,36 @@ is_setup order trace S o t times c = record {
   cores_most = rw c.cores (lit≤ tt);
   pipes_most = omega (arith, long, o.pipes_most);
   one_owner = rw c.owners (length-replicate {A = ℕ} (length order.pipes) 0 ∙ sym long);
-  owners = rw (c.owners, c.cores) (λ k d within. rw (get_or-replicate (length order.pipes) k 0 d (rw (length-replicate {A = ℕ} (length order.pipes) 0) at within)) (lit< tt));
-  routes_most = rw c.routes (All-one (λ route. length route ≤ 255) the_route (rw (length-range_with_len 0 (length order.pipes)) (omega (arith, o.pipes_most))));
+  owners = rw (c.owners, c.cores) (λ k d within. rw
+      (get_or-replicate (length order.pipes) k 0 d (rw (length-replicate {A = ℕ} (length order.pipes) 0) at within)) (lit< tt));
+  routes_most = rw c.routes (All-one (λ route. length route ≤ 255) the_route
+      (rw (length-range_with_len 0 (length order.pipes)) (omega (arith, o.pipes_most))));
   routes_named = rw c.routes (All-one (λ route. All (λ pipe. pipe < length S.pipes) route) the_route
       (λ k d within. let inside : k < length order.pipes = rw (length-range_with_len 0 (length order.pipes)) at within in
       rw (get_or-range_with_len 0 (length order.pipes) k d inside) (omega (arith, long, inside))));
   routes_distinct = rw c.routes (All-one (λ route. AllPairs (λ a b. a ≢ b) route) the_route
       (λ i j d before within. let inside : j < length order.pipes = rw (length-range_with_len 0 (length order.pipes)) at within in
-      rw (get_or-range_with_len 0 (length order.pipes) i d (omega (arith, before, inside)), get_or-range_with_len 0 (length order.pipes) j d inside) (omega (arith, before))));
+      rw (
+        get_or-range_with_len 0 (length order.pipes) i d (omega (arith, before, inside)),
+        get_or-range_with_len 0
+            (length order.pipes) j d inside,
+      ) (omega (arith, before))));
   numbers_rise = rw c.packets (plans_rise (trace_base trace) order.tick_ns trace.packets);
-  numbers_most = rw c.packets (All-plans (λ p. p.number < 1048576) (trace_base trace) order.tick_ns trace.packets (λ k within. omega (arith, within, t.count)));
-  lens_most = rw c.packets (All-plans (λ p. p.len ≤ 262144) (trace_base trace) order.tick_ns trace.packets (λ k within. (t.packets k no_packet within).original));
-  packet_routes = rw (c.packets, c.routes) (All-plans (λ p. p.route < 1) (trace_base trace) order.tick_ns trace.packets (λ k within. lit< tt));
-  packet_cores = rw (c.packets, c.cores) (All-plans (λ p. p.core < 1) (trace_base trace) order.tick_ns trace.packets (λ k within. lit< tt));
-  entries_fit = rw (c.packets, c.tick_ns) (All-plans (λ p. p.entry_tick * order.tick_ns < 2 ^ 62 - 550000000000000000) (trace_base trace) order.tick_ns trace.packets
-      (λ k within. let time = times k no_packet within in omega (arith, time, div-mul-le_self ((get_or trace.packets k no_packet).time_ns - trace_base trace) order.tick_ns)));
-  times_fit = rw (c.packets, c.tick_ns, c.base_ns) (All-plans (λ p. trace_base trace + p.entry_tick * order.tick_ns < 3600005000000000000) (trace_base trace) order.tick_ns trace.packets
+  numbers_most = rw c.packets (All-plans (λ p. p.number < 1048576) (trace_base trace) order.tick_ns trace.packets
+      (λ k within. omega (arith, within, t.count)));
+  lens_most = rw c.packets (All-plans (λ p. p.len ≤ 262144) (trace_base trace) order.tick_ns trace.packets
+      (λ k within. (t.packets k no_packet within).original));
+  packet_routes = rw (c.packets, c.routes)
+      (All-plans (λ p. p.route < 1) (trace_base trace) order.tick_ns trace.packets (λ k within. lit< tt));
+  packet_cores = rw (c.packets, c.cores) (All-plans (λ p. p.core < 1) (trace_base trace) order.tick_ns trace.packets
+      (λ k within. lit< tt));
+  entries_fit = rw (c.packets, c.tick_ns)
+      (All-plans (λ p. p.entry_tick * order.tick_ns < 2 ^ 62 - 550000000000000000) (trace_base trace) order.tick_ns trace.packets
+      (λ k within. let time = times k no_packet within in omega
+      (arith, time, div-mul-le_self ((get_or trace.packets k no_packet).time_ns - trace_base trace) order.tick_ns)));
+  times_fit = rw (c.packets, c.tick_ns, c.base_ns)
+      (All-plans (λ p. trace_base trace + p.entry_tick * order.tick_ns < 3600005000000000000)
+      (trace_base trace) order.tick_ns trace.packets
       (λ k within. let time = times k no_packet within in let early = base_before k within in
       omega (arith, time, early, div-mul-le_self ((get_or trace.packets k no_packet).time_ns - trace_base trace) order.tick_ns)));
   delays_fit = rw c.routes (All-one (λ route. longest_way S route < 550000000000000000) the_route way);

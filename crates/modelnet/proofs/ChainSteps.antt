@@ -20,7 +20,8 @@ use Rattle.modelnet.proofs.Sound.{chain_is_sound}
 
 -- the trace can't be read whole
 pub trace_stops : (limits : ReadLimits) (order : ChainView) (old new : Host) (status : Status) (name : List ℕ) → name ≡ order.trace
-    → ReadsInput (input Trace name limits.trace) (old Trace) (new Trace) (Err status) → Others Trace old new → Answered (chain_command limits order) old new status
+    → ReadsInput (input Trace name limits.trace) (old Trace) (new Trace) (Err status) → Others Trace old new → Answered
+    (chain_command limits order) old new status
 trace_stops limits order old new status name named own others =
     let c = chain_command limits order in
     stops_reading c [] (input Trace order.trace limits.trace) [] status old old new (has_begun c old (chain_is_sound limits order)) tt
@@ -33,22 +34,29 @@ pub record HasTrace (limits : ReadLimits) (order : ChainView) (trace : List ℕ)
   pub own : ReadsInput (input Trace name limits.trace) (old Trace) (new Trace) (Ok trace)
   pub others : Others Trace old new
 
-named_trace : (limits : ReadLimits) (order : ChainView) (trace : List ℕ) (old new : Host) → HasTrace limits order trace old new → ReadsInput (input Trace order.trace limits.trace) (old Trace) (new Trace) (Ok trace)
-named_trace limits order trace old new read = subst (λ n. ReadsInput (input Trace n limits.trace) (old Trace) (new Trace) (Ok trace)) read.named read.own
+named_trace : (limits : ReadLimits) (order : ChainView) (trace : List ℕ) (old new : Host) → HasTrace limits order trace old new
+    → ReadsInput (input Trace order.trace limits.trace) (old Trace) (new Trace) (Ok trace)
+named_trace limits order trace old new read = subst
+    (λ n. ReadsInput (input Trace n limits.trace) (old Trace) (new Trace) (Ok trace)) read.named read.own
 
 -- what the reader and the run answer is out of memory or the first fault
-refused_trace : (trace : List ℕ) (refusal : Refusal PcapFault) → IfFault refusal (PcapFirst trace) → (trace_refusal refusal ≡ NoMemory) ⊎ chain_refuses (trace ∷ []) (trace_refusal refusal)
+refused_trace : (trace : List ℕ) (refusal : Refusal PcapFault) → IfFault refusal (PcapFirst trace)
+    → (trace_refusal refusal ≡ NoMemory) ⊎ chain_refuses (trace ∷ []) (trace_refusal refusal)
 refused_trace trace refusal.NoMemory is = inl refl
 refused_trace trace (refusal.Fault fault) is = inr is
 
 -- the trace was read whole, and is refused
-pub trace_refused : (limits : ReadLimits) (order : ChainView) (old new : Host) (trace text : List ℕ) (refusal : Refusal PcapFault) (status : Status) → HasTrace limits order trace old new
-    → text ≡ trace → IfFault refusal (PcapFirst text) → status ≡ trace_refusal refusal → Answered (chain_command limits order) old new status
+pub trace_refused : (limits : ReadLimits) (order : ChainView) (old new : Host) (trace text : List ℕ) (refusal : Refusal PcapFault)
+    (status : Status) → HasTrace limits order trace old new
+    → text ≡ trace → IfFault refusal (PcapFirst text) → status ≡ trace_refusal refusal → Answered
+    (chain_command limits order) old new status
 trace_refused limits order old new trace text refusal status read same first is =
     let c = chain_command limits order in
     let sound = chain_is_sound limits order in
-    subst (Answered c old new) (sym is) (refuses c [] (input Trace order.trace limits.trace) [] trace (trace_refusal refusal) old old new sound (has_begun c old sound) tt
-    (named_trace limits order trace old new read) read.others (refused_trace trace refusal (subst (λ t. IfFault refusal (PcapFirst t)) same first)))
+    subst (Answered c old new) (sym is) (refuses c [] (input Trace order.trace limits.trace) [] trace
+    (trace_refusal refusal) old old new sound (has_begun c old sound) tt
+    (named_trace limits order trace old new read) read.others
+    (refused_trace trace refusal (subst (λ t. IfFault refusal (PcapFirst t)) same first)))
 
 -- the trace was read whole, and this is what is to be written
 pub record HasRun (limits : ReadLimits) (order : ChainView) (trace out report : List ℕ) (old new : Host) : Type 0 where
@@ -69,22 +77,28 @@ report_apart is = cc
 report_apart_out : Report ≢ Out
 report_apart_out is = cc
 
-has_run : (limits : ReadLimits) (order : ChainView) (trace out report : List ℕ) (old new : Host) → HasRun limits order trace out report old new
-    → HasWritten (chain_command limits order) (trace_read limits order trace) [] (chain_command limits order).outputs (out ∷ report ∷ []) old new
+has_run : (limits : ReadLimits) (order : ChainView) (trace out report : List ℕ) (old new : Host)
+    → HasRun limits order trace out report old new
+    → HasWritten (chain_command limits order) (trace_read limits order trace) [] (chain_command limits order).outputs
+    (out ∷ report ∷ []) old new
 has_run limits order trace out report old new run =
     let c = chain_command limits order in
     let sound = chain_is_sound limits order in
     let says : SaysRun order trace out report = subst (λ t. SaysRun order t out report) run.same run.says in
     has_made c (trace_read limits order trace) (out ∷ report ∷ []) old new
-    (has_read c [] (input Trace order.trace limits.trace) [] trace old old new (has_begun c old sound) tt (named_trace limits order trace old new run.read) run.read.others
+    (has_read c [] (input Trace order.trace limits.trace) [] trace old old new (has_begun c old sound) tt
+    (named_trace limits order trace old new run.read) run.read.others
     (λ status refused. sound.never_both (trace ∷ []) [] (out ∷ report ∷ []) status refused says))
     says
 
 -- the output trace can't be written whole
-pub out_stops : (limits : ReadLimits) (order : ChainView) (trace out report : List ℕ) (status : Status) (name : List ℕ) (old mid new : Host) → HasRun limits order trace out report old mid → name ≡ order.out
-    → WritesOutput (output Out name) out (mid Out) (new Out) (Err status) → Others Out mid new → Answered (chain_command limits order) old new status
+pub out_stops : (limits : ReadLimits) (order : ChainView) (trace out report : List ℕ) (status : Status) (name : List ℕ)
+    (old mid new : Host) → HasRun limits order trace out report old mid → name ≡ order.out
+    → WritesOutput (output Out name) out (mid Out) (new Out) (Err status) → Others Out mid new → Answered
+    (chain_command limits order) old new status
 out_stops limits order trace out report status name old mid new run named own others =
-    stops_writing (chain_command limits order) (trace_read limits order trace) [] (output Out order.out) (output Report order.report ∷ []) out (report ∷ []) status old mid new
+    stops_writing (chain_command limits order) (trace_read limits order trace) [] (output Out order.out)
+    (output Report order.report ∷ []) out (report ∷ []) status old mid new
     (has_run limits order trace out report old mid run) (out_apart, tt) tt
     (subst (λ n. WritesOutput (output Out n) out (mid Out) (new Out) (Err status)) named own) others
 
@@ -96,28 +110,38 @@ pub record HasOut (limits : ReadLimits) (order : ChainView) (trace out report : 
   pub own : WritesOutput (output Out name) out (mid Out) (new Out) (Ok tt)
   pub others : Others Out mid new
 
-has_out : (limits : ReadLimits) (order : ChainView) (trace out report : List ℕ) (old mid new : Host) → HasOut limits order trace out report old mid new
-    → HasWritten (chain_command limits order) (trace_read limits order trace) ((output Out order.out, out) ∷ []) (output Report order.report ∷ []) (report ∷ []) old new
+has_out : (limits : ReadLimits) (order : ChainView) (trace out report : List ℕ) (old mid new : Host)
+    → HasOut limits order trace out report old mid new
+    → HasWritten (chain_command limits order) (trace_read limits order trace) ((output Out order.out, out) ∷ [])
+    (output Report order.report ∷ []) (report ∷ []) old new
 has_out limits order trace out report old mid new done =
-    has_written (chain_command limits order) (trace_read limits order trace) [] (output Out order.out) (output Report order.report ∷ []) out (report ∷ []) old mid new
+    has_written (chain_command limits order) (trace_read limits order trace) [] (output Out order.out)
+    (output Report order.report ∷ []) out (report ∷ []) old mid new
     (has_run limits order trace out report old mid done.run) (out_apart, tt) tt
     (subst (λ n. WritesOutput (output Out n) out (mid Out) (new Out) (Ok tt)) done.named done.own) done.others
 
 -- the report can't be written whole
-pub report_stops : (limits : ReadLimits) (order : ChainView) (trace out report : List ℕ) (status : Status) (name bytes : List ℕ) (old first second new : Host) → HasOut limits order trace out report old first second
-    → name ≡ order.report → bytes ≡ report → WritesOutput (output Report name) bytes (second Report) (new Report) (Err status) → Others Report second new → Answered (chain_command limits order) old new status
+pub report_stops : (limits : ReadLimits) (order : ChainView) (trace out report : List ℕ) (status : Status) (name bytes : List ℕ)
+    (old first second new : Host) → HasOut limits order trace out report old first second
+    → name ≡ order.report → bytes ≡ report → WritesOutput (output Report name) bytes (second Report) (new Report)
+    (Err status) → Others Report second new → Answered (chain_command limits order) old new status
 report_stops limits order trace out report status name bytes old first second new done named same own others =
-    stops_writing (chain_command limits order) (trace_read limits order trace) ((output Out order.out, out) ∷ []) (output Report order.report) [] report [] status old second new
+    stops_writing (chain_command limits order) (trace_read limits order trace) ((output Out order.out, out) ∷ [])
+    (output Report order.report) [] report [] status old second new
     (has_out limits order trace out report old first second done) (report_apart, tt) (report_apart_out, tt)
     (subst (λ n. WritesOutput (output Report n) report (second Report) (new Report) (Err status)) named
     (subst (λ b. WritesOutput (output Report name) b (second Report) (new Report) (Err status)) same own)) others
 
 -- all was read and written whole
-pub all_done : (limits : ReadLimits) (order : ChainView) (trace out report name bytes : List ℕ) (old first second new : Host) → HasOut limits order trace out report old first second
-    → name ≡ order.report → bytes ≡ report → WritesOutput (output Report name) bytes (second Report) (new Report) (Ok tt) → Others Report second new → Answered (chain_command limits order) old new Done
+pub all_done : (limits : ReadLimits) (order : ChainView) (trace out report name bytes : List ℕ) (old first second new : Host)
+    → HasOut limits order trace out report old first second
+    → name ≡ order.report → bytes ≡ report → WritesOutput (output Report name) bytes (second Report) (new Report)
+    (Ok tt) → Others Report second new → Answered (chain_command limits order) old new Done
 all_done limits order trace out report name bytes old first second new done named same own others =
-    is_done (chain_command limits order) (trace_read limits order trace) ((output Out order.out, out) ∷ (output Report order.report, report) ∷ []) old new
-    (has_written (chain_command limits order) (trace_read limits order trace) ((output Out order.out, out) ∷ []) (output Report order.report) [] report [] old second new
+    is_done (chain_command limits order) (trace_read limits order trace)
+    ((output Out order.out, out) ∷ (output Report order.report, report) ∷ []) old new
+    (has_written (chain_command limits order) (trace_read limits order trace) ((output Out order.out, out) ∷ [])
+    (output Report order.report) [] report [] old second new
     (has_out limits order trace out report old first second done) (report_apart, tt) (report_apart_out, tt)
     (subst (λ n. WritesOutput (output Report n) report (second Report) (new Report) (Ok tt)) named
     (subst (λ b. WritesOutput (output Report name) b (second Report) (new Report) (Ok tt)) same own)) others)

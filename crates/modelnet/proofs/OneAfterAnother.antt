@@ -14,7 +14,8 @@ Others role mid new = (other : Role) → other ≢ role → new other ≡ mid ot
 
 -- lists that grow at their end
 
-inputs_push : (reads : ReadInputs) (r : Input × List ℕ) (later : List Input) → inputs_of (reads ++ r ∷ []) ++ later ≡ inputs_of reads ++ r.0 ∷ later
+inputs_push : (reads : ReadInputs) (r : Input × List ℕ) (later : List Input)
+    → inputs_of (reads ++ r ∷ []) ++ later ≡ inputs_of reads ++ r.0 ∷ later
 inputs_push [] r later = refl
 inputs_push (q ∷ reads) r later = ap (λ inputs. q.0 ∷ inputs) (inputs_push reads r later)
 
@@ -22,24 +23,29 @@ bytes_read_push : (reads : ReadInputs) (r : Input × List ℕ) → bytes_read (r
 bytes_read_push [] r = refl
 bytes_read_push (q ∷ reads) r = ap (λ bytes. q.1 ∷ bytes) (bytes_read_push reads r)
 
-outputs_push : (writes : WrittenOutputs) (w : Output × List ℕ) (later : List Output) → outputs_of (writes ++ w ∷ []) ++ later ≡ outputs_of writes ++ w.0 ∷ later
+outputs_push : (writes : WrittenOutputs) (w : Output × List ℕ) (later : List Output)
+    → outputs_of (writes ++ w ∷ []) ++ later ≡ outputs_of writes ++ w.0 ∷ later
 outputs_push [] w later = refl
 outputs_push (v ∷ writes) w later = ap (λ outputs. v.0 ∷ outputs) (outputs_push writes w later)
 
-bytes_written_push : (writes : WrittenOutputs) (w : Output × List ℕ) (later : List (List ℕ)) → bytes_written (writes ++ w ∷ []) ++ later ≡ bytes_written writes ++ w.1 ∷ later
+bytes_written_push : (writes : WrittenOutputs) (w : Output × List ℕ) (later : List (List ℕ))
+    → bytes_written (writes ++ w ∷ []) ++ later ≡ bytes_written writes ++ w.1 ∷ later
 bytes_written_push [] w later = refl
 bytes_written_push (v ∷ writes) w later = ap (λ bytes. v.1 ∷ bytes) (bytes_written_push writes w later)
 
-reads_not_push : (reads : ReadInputs) (r : Input × List ℕ) (role : Role) → ReadsNot (inputs_of (reads ++ r ∷ [])) role → ReadsNot (inputs_of reads) role × (role ≢ r.0.role)
+reads_not_push : (reads : ReadInputs) (r : Input × List ℕ) (role : Role) → ReadsNot (inputs_of (reads ++ r ∷ [])) role
+    → ReadsNot (inputs_of reads) role × (role ≢ r.0.role)
 reads_not_push [] r role none = (tt, none.0)
 reads_not_push (q ∷ reads) r role none = let rest = reads_not_push reads r role none.1 in ((none.0, rest.0), rest.1)
 
-writes_not_push : (writes : WrittenOutputs) (w : Output × List ℕ) (role : Role) → WritesNot (outputs_of (writes ++ w ∷ [])) role → WritesNot (outputs_of writes) role × (role ≢ w.0.role)
+writes_not_push : (writes : WrittenOutputs) (w : Output × List ℕ) (role : Role) → WritesNot (outputs_of (writes ++ w ∷ [])) role
+    → WritesNot (outputs_of writes) role × (role ≢ w.0.role)
 writes_not_push [] w role none = (tt, none.0)
 writes_not_push (v ∷ writes) w role none = let rest = writes_not_push writes w role none.1 in ((none.0, rest.0), rest.1)
 
 -- a role that no input has is no earlier input, and not the next
-reads_not_split : (inputs : List Input) (at : Input) (later : List Input) (role : Role) → ReadsNot (inputs ++ at ∷ later) role → ReadsNot inputs role × (role ≢ at.role)
+reads_not_split : (inputs : List Input) (at : Input) (later : List Input) (role : Role) → ReadsNot (inputs ++ at ∷ later) role
+    → ReadsNot inputs role × (role ≢ at.role)
 reads_not_split [] at later role none = (tt, none.0)
 reads_not_split (i ∷ inputs) at later role none = let rest = reads_not_split inputs at later role none.1 in ((none.0, rest.0), rest.1)
 
@@ -48,7 +54,8 @@ reads_not_front [] later role none = tt
 reads_not_front (i ∷ inputs) later role none = (none.0, reads_not_front inputs later role none.1)
 
 -- a front of a list with one more is the whole list, or a front of the list without it
-split_last : {X : Type 0} (xs : List X) (x : X) (front back : List X) → xs ++ x ∷ [] ≡ front ++ back → (front ≡ xs ++ x ∷ []) ⊎ ((mid : List X) × (xs ≡ front ++ mid))
+split_last : {X : Type 0} (xs : List X) (x : X) (front back : List X) → xs ++ x ∷ [] ≡ front ++ back
+    → (front ≡ xs ++ x ∷ []) ⊎ ((mid : List X) × (xs ≡ front ++ mid))
 split_last xs x [] back is = inr (xs, refl)
 split_last [] x (y ∷ []) back is = let same : x ≡ y = cc in inl (ap (λ z. z ∷ []) (sym same))
 split_last [] x (y ∷ z ∷ front) back is = absurd cc
@@ -62,33 +69,46 @@ split_last (w ∷ xs) x (y ∷ front) back is =
 
 -- what stands before a call on another role stands after it
 
-still_read : (reads : ReadInputs) (role : Role) (old mid new : Host) → ReadsNot (inputs_of reads) role → Others role mid new → AreRead reads old mid → AreRead reads old new
+still_read : (reads : ReadInputs) (role : Role) (old mid new : Host) → ReadsNot (inputs_of reads) role → Others role mid new
+    → AreRead reads old mid → AreRead reads old new
 still_read [] role old mid new none others are = tt
 still_read (r ∷ reads) role old mid new none others are =
-    let same : new r.0.role ≡ mid r.0.role = others r.0.role (λ is. none.0 (sym is)) in
-    (subst (λ part. WasRead r.0.name r.1 (old r.0.role) part) (sym same) are.0, are.1, still_read reads role old mid new none.1 others are.2)
+    let same : new r.0.role ≡ mid r.0.role = others r.0.role (λ is. none.0 (sym is)) in (
+      subst (λ part. WasRead r.0.name r.1 (old r.0.role) part)
+          (sym same) are.0,
+      are.1,
+      still_read reads role old mid new none.1 others are.2,
+    )
 
-still_written : (writes : WrittenOutputs) (role : Role) (old mid new : Host) → WritesNot (outputs_of writes) role → Others role mid new → AreWritten writes old mid → AreWritten writes old new
+still_written : (writes : WrittenOutputs) (role : Role) (old mid new : Host) → WritesNot (outputs_of writes) role → Others role mid new
+    → AreWritten writes old mid → AreWritten writes old new
 still_written [] role old mid new none others are = tt
 still_written (w ∷ writes) role old mid new none others are =
-    let same : new w.0.role ≡ mid w.0.role = others w.0.role (λ is. none.0 (sym is)) in
-    (subst (λ part. WasWritten w.0.name w.1 (old w.0.role) part) (sym same) are.0, still_written writes role old mid new none.1 others are.1)
+    let same : new w.0.role ≡ mid w.0.role = others w.0.role (λ is. none.0 (sym is)) in (
+      subst (λ part. WasWritten w.0.name w.1 (old w.0.role) part)
+          (sym same) are.0,
+      still_written writes role old mid new none.1 others are.1,
+    )
 
-read_push : (reads : ReadInputs) (r : Input × List ℕ) (old new : Host) → AreRead reads old new → WasRead r.0.name r.1 (old r.0.role) (new r.0.role) → length r.1 ≤ r.0.limit → AreRead (reads ++ r ∷ []) old new
+read_push : (reads : ReadInputs) (r : Input × List ℕ) (old new : Host) → AreRead reads old new
+    → WasRead r.0.name r.1 (old r.0.role) (new r.0.role) → length r.1 ≤ r.0.limit → AreRead (reads ++ r ∷ []) old new
 read_push [] r old new are read few = (read, few, tt)
 read_push (q ∷ reads) r old new are read few = (are.0, are.1, read_push reads r old new are.2 read few)
 
-written_push : (writes : WrittenOutputs) (w : Output × List ℕ) (old new : Host) → AreWritten writes old new → WasWritten w.0.name w.1 (old w.0.role) (new w.0.role) → AreWritten (writes ++ w ∷ []) old new
+written_push : (writes : WrittenOutputs) (w : Output × List ℕ) (old new : Host) → AreWritten writes old new
+    → WasWritten w.0.name w.1 (old w.0.role) (new w.0.role) → AreWritten (writes ++ w ∷ []) old new
 written_push [] w old new are written = (written, tt)
 written_push (v ∷ writes) w old new are written = (are.0, written_push writes w old new are.1 written)
 
 -- one more input was read whole
-stands_read : (reads : ReadInputs) (r : Input × List ℕ) (old mid new : Host) → Stands reads [] old mid → ReadsNot (inputs_of reads) r.0.role → Others r.0.role mid new
+stands_read : (reads : ReadInputs) (r : Input × List ℕ) (old mid new : Host) → Stands reads [] old mid
+    → ReadsNot (inputs_of reads) r.0.role → Others r.0.role mid new
     → WasRead r.0.name r.1 (mid r.0.role) (new r.0.role) → length r.1 ≤ r.0.limit → Stands (reads ++ r ∷ []) [] old new
 stands_read reads r old mid new s none others read few =
     let first : mid r.0.role ≡ old r.0.role = s.others r.0.role none tt in
     record {
-      read = read_push reads r old new (still_read reads r.0.role old mid new none others s.read) (subst (λ part. WasRead r.0.name r.1 part (new r.0.role)) first read) few;
+      read = read_push reads r old new (still_read reads r.0.role old mid new none others s.read)
+          (subst (λ part. WasRead r.0.name r.1 part (new r.0.role)) first read) few;
       written = tt;
       others = λ role unread unwritten. let split = reads_not_push reads r role unread in others role split.1 ∙ s.others role split.0 tt;
     }
@@ -101,13 +121,16 @@ stands_written reads writes w old mid new s unread unwritten others written =
     let first : mid w.0.role ≡ old w.0.role = s.others w.0.role unread unwritten in
     record {
       read = still_read reads w.0.role old mid new unread others s.read;
-      written = written_push writes w old new (still_written writes w.0.role old mid new unwritten others s.written) (subst (λ part. WasWritten w.0.name w.1 part (new w.0.role)) first written);
+      written = written_push writes w old new (still_written writes w.0.role old mid new unwritten others s.written)
+          (subst (λ part. WasWritten w.0.name w.1 part (new w.0.role)) first written);
       others = λ role r v. let split = writes_not_push writes w role v in others role split.1 ∙ s.others role r split.0;
     }
 
 -- the next role is cut
-stops_at : (reads : ReadInputs) (writes : WrittenOutputs) (at : Role) (IsCut : Part → Part → Type 0) (old mid new : Host) → Stands reads writes old mid
-    → ReadsNot (inputs_of reads) at → WritesNot (outputs_of writes) at → Others at mid new → IsCut (mid at) (new at) → StopsAt reads writes at IsCut old new
+stops_at : (reads : ReadInputs) (writes : WrittenOutputs) (at : Role) (IsCut : Part → Part → Type 0) (old mid new : Host)
+    → Stands reads writes old mid
+    → ReadsNot (inputs_of reads) at → WritesNot (outputs_of writes) at → Others at mid new → IsCut (mid at)
+    (new at) → StopsAt reads writes at IsCut old new
 stops_at reads writes at IsCut old mid new s unread unwritten others cut =
     let first : mid at ≡ old at = s.others at unread unwritten in
     record {
@@ -126,7 +149,8 @@ pub record HasRead (c : Command) (reads : ReadInputs) (later : List Input) (old 
   pub stands : Stands reads [] old new
 
 -- all inputs were read whole, these outputs were written whole, and these are to be written with these bytes
-pub record HasWritten (c : Command) (reads : ReadInputs) (writes : WrittenOutputs) (later : List Output) (later_bytes : List (List ℕ)) (old new : Host) : Type 0 where
+pub record HasWritten (c : Command) (reads : ReadInputs) (writes : WrittenOutputs) (later : List Output) (later_bytes : List (List ℕ))
+    (old new : Host) : Type 0 where
   pub inputs : c.inputs ≡ inputs_of reads
   pub outputs : c.outputs ≡ outputs_of writes ++ later
   pub says : c.writes (bytes_read reads) (bytes_written writes ++ later_bytes)
@@ -145,7 +169,8 @@ has_begun c host sound = record {
 }
 
 -- bytes that nothing refuses pass after those that do
-passes_push : (c : Command) (past : List (List ℕ)) (bytes : List ℕ) → Passes c past → ((status : Status) → c.refuses (past ++ bytes ∷ []) status → ⊥) → Passes c (past ++ bytes ∷ [])
+passes_push : (c : Command) (past : List (List ℕ)) (bytes : List ℕ) → Passes c past
+    → ((status : Status) → c.refuses (past ++ bytes ∷ []) status → ⊥) → Passes c (past ++ bytes ∷ [])
 passes_push c past bytes passes fine front back status is refused =
     elim (split_last past bytes front back is) [
       | inl whole ↦ fine status (subst (λ b. c.refuses b status) whole refused)
@@ -153,7 +178,8 @@ passes_push c past bytes passes fine front back status is refused =
     ]
 
 -- the next input was read whole, and nothing refuses its bytes
-pub has_read : (c : Command) (reads : ReadInputs) (at : Input) (later : List Input) (bytes : List ℕ) (old mid new : Host) → HasRead c reads (at ∷ later) old mid
+pub has_read : (c : Command) (reads : ReadInputs) (at : Input) (later : List Input) (bytes : List ℕ) (old mid new : Host)
+    → HasRead c reads (at ∷ later) old mid
     → ReadsNot (inputs_of reads) at.role → ReadsInput at (mid at.role) (new at.role) (Ok bytes) → Others at.role mid new
     → ((status : Status) → c.refuses (bytes_read reads ++ bytes ∷ []) status → ⊥) → HasRead c (reads ++ (at, bytes) ∷ []) later old new
 has_read c reads at later bytes old mid new so none own others fine = record {
@@ -163,19 +189,23 @@ has_read c reads at later bytes old mid new so none own others fine = record {
 }
 
 -- memory was refused while inputs are read, or after
-pub no_memory : (c : Command) (reads : ReadInputs) (later : List Input) (old new : Host) → HasRead c reads later old new → Answered c old new NoMemory
+pub no_memory : (c : Command) (reads : ReadInputs) (later : List Input) (old new : Host) → HasRead c reads later old new
+    → Answered c old new NoMemory
 no_memory c reads later old new so role unread =
     so.stands.others role (reads_not_front (inputs_of reads) later role (subst (λ inputs. ReadsNot inputs role) so.inputs unread)) tt
 
 -- memory was refused while the next input is read, or after
-no_memory_at : (c : Command) (reads : ReadInputs) (at : Input) (later : List Input) (old mid new : Host) → HasRead c reads (at ∷ later) old mid → Others at.role mid new → Answered c old new NoMemory
+no_memory_at : (c : Command) (reads : ReadInputs) (at : Input) (later : List Input) (old mid new : Host)
+    → HasRead c reads (at ∷ later) old mid → Others at.role mid new → Answered c old new NoMemory
 no_memory_at c reads at later old mid new so others role unread =
     let split = reads_not_split (inputs_of reads) at later role (subst (λ inputs. ReadsNot inputs role) so.inputs unread) in
     others role split.1 ∙ so.stands.others role split.0 tt
 
 -- the next input can't be read whole
-pub stops_reading : (c : Command) (reads : ReadInputs) (at : Input) (later : List Input) (status : Status) (old mid new : Host) → HasRead c reads (at ∷ later) old mid
-    → ReadsNot (inputs_of reads) at.role → ReadsInput at (mid at.role) (new at.role) (Err status) → Others at.role mid new → Answered c old new status
+pub stops_reading : (c : Command) (reads : ReadInputs) (at : Input) (later : List Input) (status : Status) (old mid new : Host)
+    → HasRead c reads (at ∷ later) old mid
+    → ReadsNot (inputs_of reads) at.role → ReadsInput at (mid at.role) (new at.role)
+    (Err status) → Others at.role mid new → Answered c old new status
 stops_reading c reads at later NoMemory old mid new so none own others = no_memory_at c reads at later old mid new so others
 stops_reading c reads at later (ReadFault role) old mid new so none own others = record {
   reads = reads;
@@ -201,12 +231,14 @@ stops_reading c reads at later (BadTrace fault) old mid new so none own others =
 stops_reading c reads at later (WriteFault role) old mid new so none own others = absurd own
 
 -- the next input was read whole, and its bytes are refused
-pub refuses : (c : Command) (reads : ReadInputs) (at : Input) (later : List Input) (bytes : List ℕ) (status : Status) (old mid new : Host) → IsSound c → HasRead c reads (at ∷ later) old mid
+pub refuses : (c : Command) (reads : ReadInputs) (at : Input) (later : List Input) (bytes : List ℕ) (status : Status)
+    (old mid new : Host) → IsSound c → HasRead c reads (at ∷ later) old mid
     → ReadsNot (inputs_of reads) at.role → ReadsInput at (mid at.role) (new at.role) (Ok bytes) → Others at.role mid new
     → (status ≡ NoMemory) ⊎ c.refuses (bytes_read reads ++ bytes ∷ []) status → Answered c old new status
 refuses c reads at later bytes status old mid new sound so none own others (inl empty) =
     subst (Answered c old new) (sym empty) (no_memory_at c reads at later old mid new so others)
-refuses c reads at later bytes status old mid new sound so none own others (inr refused) = by_kind status refused (sound.refusals (bytes_read reads ++ bytes ∷ []) status refused)
+refuses c reads at later bytes status old mid new sound so none own others (inr refused) = by_kind status refused
+    (sound.refusals (bytes_read reads ++ bytes ∷ []) status refused)
   where
     by_kind : (answer : Status) → c.refuses (bytes_read reads ++ bytes ∷ []) answer → IsRefusal answer → Answered c old new answer
     by_kind Done is none_of = absurd none_of
@@ -227,7 +259,8 @@ refuses c reads at later bytes status old mid new sound so none own others (inr 
     }
 
 -- all inputs were read whole, and these bytes are to be written
-pub has_made : (c : Command) (reads : ReadInputs) (outs : List (List ℕ)) (old new : Host) → HasRead c reads [] old new → c.writes (bytes_read reads) outs → HasWritten c reads [] c.outputs outs old new
+pub has_made : (c : Command) (reads : ReadInputs) (outs : List (List ℕ)) (old new : Host) → HasRead c reads [] old new
+    → c.writes (bytes_read reads) outs → HasWritten c reads [] c.outputs outs old new
 has_made c reads outs old new so says = record {
   inputs = so.inputs ∙ all (inputs_of reads);
   outputs = refl;
@@ -240,9 +273,12 @@ has_made c reads outs old new so says = record {
     all (i ∷ inputs) = ap (λ is. i ∷ is) (all inputs)
 
 -- the next output was written whole
-pub has_written : (c : Command) (reads : ReadInputs) (writes : WrittenOutputs) (at : Output) (later : List Output) (bytes : List ℕ) (later_bytes : List (List ℕ)) (old mid new : Host)
-    → HasWritten c reads writes (at ∷ later) (bytes ∷ later_bytes) old mid → ReadsNot (inputs_of reads) at.role → WritesNot (outputs_of writes) at.role
-    → WasWritten at.name bytes (mid at.role) (new at.role) → Others at.role mid new → HasWritten c reads (writes ++ (at, bytes) ∷ []) later later_bytes old new
+pub has_written : (c : Command) (reads : ReadInputs) (writes : WrittenOutputs) (at : Output) (later : List Output) (bytes : List ℕ)
+    (later_bytes : List (List ℕ)) (old mid new : Host)
+    → HasWritten c reads writes (at ∷ later) (bytes ∷ later_bytes) old mid → ReadsNot (inputs_of reads) at.role → WritesNot
+    (outputs_of writes) at.role
+    → WasWritten at.name bytes (mid at.role) (new at.role) → Others at.role mid new → HasWritten c reads
+    (writes ++ (at, bytes) ∷ []) later later_bytes old new
 has_written c reads writes at later bytes later_bytes old mid new so unread unwritten own others = record {
   inputs = so.inputs;
   outputs = so.outputs ∙ sym (outputs_push writes (at, bytes) later);
@@ -251,8 +287,10 @@ has_written c reads writes at later bytes later_bytes old mid new so unread unwr
 }
 
 -- the next output can't be written whole
-pub stops_writing : (c : Command) (reads : ReadInputs) (writes : WrittenOutputs) (at : Output) (later : List Output) (bytes : List ℕ) (later_bytes : List (List ℕ)) (status : Status) (old mid new : Host)
-    → HasWritten c reads writes (at ∷ later) (bytes ∷ later_bytes) old mid → ReadsNot (inputs_of reads) at.role → WritesNot (outputs_of writes) at.role
+pub stops_writing : (c : Command) (reads : ReadInputs) (writes : WrittenOutputs) (at : Output) (later : List Output) (bytes : List ℕ)
+    (later_bytes : List (List ℕ)) (status : Status) (old mid new : Host)
+    → HasWritten c reads writes (at ∷ later) (bytes ∷ later_bytes) old mid → ReadsNot (inputs_of reads) at.role → WritesNot
+    (outputs_of writes) at.role
     → WritesOutput at bytes (mid at.role) (new at.role) (Err status) → Others at.role mid new → Answered c old new status
 stops_writing c reads writes at later bytes later_bytes (WriteFault role) old mid new so unread unwritten own others = record {
   reads = reads;
@@ -275,7 +313,8 @@ stops_writing c reads writes at later bytes later_bytes (ReadFault role) old mid
 stops_writing c reads writes at later bytes later_bytes (TooLarge role) old mid new so unread unwritten own others = absurd own
 
 -- all outputs were written whole
-pub is_done : (c : Command) (reads : ReadInputs) (writes : WrittenOutputs) (old new : Host) → HasWritten c reads writes [] [] old new → Answered c old new Done
+pub is_done : (c : Command) (reads : ReadInputs) (writes : WrittenOutputs) (old new : Host) → HasWritten c reads writes [] [] old new
+    → Answered c old new Done
 is_done c reads writes old new so = record {
   reads = reads;
   writes = writes;

@@ -28,19 +28,27 @@ one_range x y = ap (λ l. (l, x.1)) (le_prop x.0 y.0) ∙ ap (λ r. (y.0, r)) (l
 
 -- parameters with another number in one field, where it is the same
 with_bps : (p : PipeParams) (n : ℕ) → p.bps ≡ n → (range : IsBandwidth n) → p ≡ record p { bps = n; bandwidth = range }
-with_bps p n same = subst (λ k. (range : IsBandwidth k) → p ≡ record p { bps = k; bandwidth = range }) same (λ range. ap (λ r. record p { bandwidth = r }) (one_range p.bandwidth range))
+with_bps p n same = subst (λ k. (range : IsBandwidth k) → p ≡ record p { bps = k; bandwidth = range }) same
+    (λ range. ap (λ r. record p { bandwidth = r }) (one_range p.bandwidth range))
 
-with_us : (p : PipeParams) (n : ℕ) → p.latency_us ≡ n → (range : n ≤ PIPE_LATENCY_US_MAX) → p ≡ record p { latency_us = n; latency = range }
-with_us p n same = subst (λ k. (range : k ≤ PIPE_LATENCY_US_MAX) → p ≡ record p { latency_us = k; latency = range }) same (λ range. ap (λ r. record p { latency = r }) (le_prop p.latency range))
+with_us : (p : PipeParams) (n : ℕ) → p.latency_us ≡ n → (range : n ≤ PIPE_LATENCY_US_MAX)
+    → p ≡ record p { latency_us = n; latency = range }
+with_us p n same = subst (λ k. (range : k ≤ PIPE_LATENCY_US_MAX) → p ≡ record p { latency_us = k; latency = range }) same
+    (λ range. ap (λ r. record p { latency = r }) (le_prop p.latency range))
 
-with_ticks : (p : PipeParams) (n : ℕ) → p.latency_ticks ≡ n → (range : (1 ≤ n) × (n ≤ PIPE_LATENCY_TICKS_MAX)) → p ≡ record p { latency_ticks = n; delays = range }
-with_ticks p n same = subst (λ k. (range : (1 ≤ k) × (k ≤ PIPE_LATENCY_TICKS_MAX)) → p ≡ record p { latency_ticks = k; delays = range }) same (λ range. ap (λ r. record p { delays = r }) (one_range p.delays range))
+with_ticks : (p : PipeParams) (n : ℕ) → p.latency_ticks ≡ n → (range : (1 ≤ n) × (n ≤ PIPE_LATENCY_TICKS_MAX))
+    → p ≡ record p { latency_ticks = n; delays = range }
+with_ticks p n same = subst
+    (λ k. (range : (1 ≤ k) × (k ≤ PIPE_LATENCY_TICKS_MAX)) → p ≡ record p { latency_ticks = k; delays = range }) same
+    (λ range. ap (λ r. record p { delays = r }) (one_range p.delays range))
 
 with_queue : (p : PipeParams) (n : ℕ) → p.queue ≡ n → (range : IsQueueLimit n) → p ≡ record p { queue = n; places = range }
-with_queue p n same = subst (λ k. (range : IsQueueLimit k) → p ≡ record p { queue = k; places = range }) same (λ range. ap (λ r. record p { places = r }) (one_range p.places range))
+with_queue p n same = subst (λ k. (range : IsQueueLimit k) → p ≡ record p { queue = k; places = range }) same
+    (λ range. ap (λ r. record p { places = r }) (one_range p.places range))
 
 with_keep : (p : PipeParams) (n : ℕ) → p.keep ≡ n → (range : n ≤ KEEP_MAX) → p ≡ record p { keep = n; keeps = range }
-with_keep p n same = subst (λ k. (range : k ≤ KEEP_MAX) → p ≡ record p { keep = k; keeps = range }) same (λ range. ap (λ r. record p { keeps = r }) (le_prop p.keeps range))
+with_keep p n same = subst (λ k. (range : k ≤ KEEP_MAX) → p ≡ record p { keep = k; keeps = range }) same
+    (λ range. ap (λ r. record p { keeps = r }) (le_prop p.keeps range))
 
 -- a pipe's word has one pair of parameters
 one_pipe : (tick_ns : ℕ) (pipe : PipeSpec) (p q : PipeParams) → IsPipeOf tick_ns pipe p → IsPipeOf tick_ns pipe q → p ≡ q
@@ -55,7 +63,8 @@ one_pipe tick_ns pipe p q is also =
     ∙ with_queue c q.queue (is.queue ∙ sym also.queue) q.places
     ∙ with_keep d q.keep (is.keep_of_loss ∙ sym also.keep_of_loss) q.keeps
 
-one_list : (tick_ns : ℕ) (pipes : List PipeSpec) (ps qs : List PipeParams) → AllZip (IsPipeOf tick_ns) pipes ps → AllZip (IsPipeOf tick_ns) pipes qs → ps ≡ qs
+one_list : (tick_ns : ℕ) (pipes : List PipeSpec) (ps qs : List PipeParams) → AllZip (IsPipeOf tick_ns) pipes ps
+    → AllZip (IsPipeOf tick_ns) pipes qs → ps ≡ qs
 one_list tick_ns [] [] [] is also = refl
 one_list tick_ns [] [] (q ∷ qs) is also = absurd also
 one_list tick_ns [] (p ∷ ps) qs is also = absurd is
@@ -81,7 +90,8 @@ setup_of_parts tick_ns seed base_ns link_type cores pipes owners routes packets 
 abbrev rebuilt : SetupView → SetupView
 rebuilt S = setup_of_parts S.tick_ns S.seed S.base_ns S.link_type S.cores S.pipes S.owners S.routes S.packets
 
-same_parts : (order : ChainView) (trace : Capture) (S R : SetupView) → IsChainSetup order trace S → IsChainSetup order trace R → rebuilt S ≡ rebuilt R
+same_parts : (order : ChainView) (trace : Capture) (S R : SetupView) → IsChainSetup order trace S → IsChainSetup order trace R
+    → rebuilt S ≡ rebuilt R
 same_parts order trace S R is also =
     let pipes : S.pipes ≡ R.pipes = one_list order.tick_ns order.pipes S.pipes R.pipes is.pipes also.pipes in cc
 
@@ -96,17 +106,20 @@ unfolding report_text
 one_report o p same = cc
 
 -- runs of one order on one trace write the same
-one_chain_run : (order : ChainView) (trace : Capture) (out report out' report' : List ℕ) → IsChainRun order trace out report → IsChainRun order trace out' report' → (out ≡ out') × (report ≡ report')
+one_chain_run : (order : ChainView) (trace : Capture) (out report out' report' : List ℕ) → IsChainRun order trace out report
+    → IsChainRun order trace out' report' → (out ≡ out') × (report ≡ report')
 one_chain_run order trace out report out' report' run also =
     let setup = one_setup order trace run.setup also.setup run.setup_is also.setup_is in
     let bytes = map (λ p. p.bytes) trace.packets in
     let outcome_is = subst (λ S. IsOutcome S (journal_of S) bytes run.outcome) setup run.outcome_is in
     let same = outcomes_agree also.setup (journal_of also.setup) bytes run.outcome also.outcome outcome_is also.outcome_is in (
-      run.out_is ∙ ap (λ S. pcap_text (trace_of S run.outcome.leaving)) setup ∙ ap (λ l. pcap_text (trace_of also.setup l)) same.leaving ∙ sym also.out_is,
+      run.out_is ∙ ap (λ S. pcap_text (trace_of S run.outcome.leaving)) setup ∙ ap (λ l. pcap_text (trace_of also.setup l)) same.leaving
+          ∙ sym also.out_is,
       run.report_is ∙ one_report run.outcome also.outcome same ∙ sym also.report_is,
     )
 
-pub one_run : (order : ChainView) (trace out report out' report' : List ℕ) → SaysRun order trace out report → SaysRun order trace out' report' → (out ≡ out') × (report ≡ report')
+pub one_run : (order : ChainView) (trace out report out' report' : List ℕ) → SaysRun order trace out report
+    → SaysRun order trace out' report' → (out ≡ out') × (report ≡ report')
 one_run order trace out report out' report' says also =
     let same = one_reading trace says.trace also.trace says.says also.says in
     one_chain_run order also.trace out report out' report' (subst (λ t. IsChainRun order t out report) same says.run) also.run

@@ -30,7 +30,8 @@ All-among P (y ∷ xs) x all there =
       | inr later ↦ All-among P xs x (λ k d below. all (suc k) d (omega arith)) later
     ]
 
-pub can_be_written : (S : SetupView) (visits : List Visit) (bytes : List (List ℕ)) (o : OutcomeView) (trace : Capture) → IsSetup S → OutputsFit S → visits ≡ journal_of S
+pub can_be_written : (S : SetupView) (visits : List Visit) (bytes : List (List ℕ)) (o : OutcomeView) (trace : Capture) → IsSetup S
+    → OutputsFit S → visits ≡ journal_of S
     → bytes ≡ map (λ p. p.bytes) trace.packets → IsTrace trace → IsOutcome S visits bytes o → CanBeWritten S o.leaving
 can_be_written S visits bytes o trace setup fit same copied t is = record {
   of_setup = left-known S visits bytes o is;

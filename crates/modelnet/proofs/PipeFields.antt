@@ -8,7 +8,9 @@ uncut : {X : Type 0} (p : X → Bool) (xs : List X) → position_or_len p xs ≡
 uncut p [] none = refl
 uncut {X} p (x ∷ xs) none = from (p x) none (λ later. uncut p xs later)
   where
-    from : (b : Bool) → cond (not b) (1 + position_or_len p xs) 0 ≡ length (x ∷ xs) → (position_or_len p xs ≡ length xs → slice_split p xs ≡ xs ∷ []) → cond b ([] ∷ slice_split p xs) (onto_first x (slice_split p xs)) ≡ (x ∷ xs) ∷ []
+    from : (b : Bool) → cond (not b) (1 + position_or_len p xs) 0 ≡ length (x ∷ xs)
+        → (position_or_len p xs ≡ length xs → slice_split p xs ≡ xs ∷ [])
+        → cond b ([] ∷ slice_split p xs) (onto_first x (slice_split p xs)) ≡ (x ∷ xs) ∷ []
     from true none rest = absurd (omega (arith, none))
     from false none rest = ap (onto_first x) (rest (omega (arith, none)))
 
@@ -18,7 +20,8 @@ unfolding fields_of
 fields_of-whole word none = uncut (λ b. b == 58) word none
 
 -- the first field ends at the first colon
-pub fields_of-cut : (word front back : List ℕ) → position_or_len (λ b. b == 58) word < length word → front ≡ before_first (λ b. b == 58) word → back ≡ after_first (λ b. b == 58) word → fields_of word ≡ front ∷ fields_of back
+pub fields_of-cut : (word front back : List ℕ) → position_or_len (λ b. b == 58) word < length word
+    → front ≡ before_first (λ b. b == 58) word → back ≡ after_first (λ b. b == 58) word → fields_of word ≡ front ∷ fields_of back
 unfolding fields_of
 fields_of-cut word front back some front_is back_is = rw (front_is, back_is) (slice_split_first (λ b. b == 58) word 0 some)
 

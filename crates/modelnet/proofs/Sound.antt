@@ -31,7 +31,8 @@ chain_refusals [] status is = absurd is
 chain_refusals (trace ∷ more ∷ read) status is = absurd is
 
 -- what refuses a trace is its first fault
-refused_by : (trace : List ℕ) (status : Status) → chain_refuses (trace ∷ []) status → (fault : PcapFault) × (status ≡ BadTrace fault) × chain_refuses (trace ∷ []) (BadTrace fault)
+refused_by : (trace : List ℕ) (status : Status) → chain_refuses (trace ∷ []) status
+    → (fault : PcapFault) × (status ≡ BadTrace fault) × chain_refuses (trace ∷ []) (BadTrace fault)
 refused_by trace (BadTrace fault) is = (fault, refl, is)
 refused_by trace Done is = absurd is
 refused_by trace NoMemory is = absurd is
@@ -49,7 +50,8 @@ chain_one_refusal (trace ∷ []) one other is also =
     first.1 ∙ ap (λ f. BadTrace f) (one_fault trace first.0 second.0 first.2 second.2) ∙ sym second.1
 
 -- a trace that is replayed has no fault
-chain_never_both : (order : ChainView) (front back written : List (List ℕ)) (status : Status) → chain_refuses front status → chain_writes order (front ++ back) written → ⊥
+chain_never_both : (order : ChainView) (front back written : List (List ℕ)) (status : Status) → chain_refuses front status
+    → chain_writes order (front ++ back) written → ⊥
 chain_never_both order [] back written status refused says = refused
 chain_never_both order (trace ∷ more ∷ front) back written status refused says = refused
 chain_never_both order (trace ∷ []) (more ∷ back) written status refused says = says
@@ -59,7 +61,8 @@ chain_never_both order (trace ∷ []) [] (out ∷ report ∷ more ∷ written) s
 chain_never_both order (trace ∷ []) [] (out ∷ report ∷ []) status refused says =
     let first = refused_by trace status refused in no_fault trace says.trace first.0 says.says first.2
 
-chain_one_output : (order : ChainView) (read written others : List (List ℕ)) → chain_writes order read written → chain_writes order read others → written ≡ others
+chain_one_output : (order : ChainView) (read written others : List (List ℕ)) → chain_writes order read written
+    → chain_writes order read others → written ≡ others
 chain_one_output order [] written others says also = absurd says
 chain_one_output order (trace ∷ more ∷ read) written others says also = absurd says
 chain_one_output order (trace ∷ []) [] others says also = absurd says
@@ -92,11 +95,13 @@ one_order words one other is also =
     let both : Ok one ≡ Ok other = sym is ∙ also in cc
 
 -- where the words are an order, the answer is that of its command
-same_order : (limits : ReadLimits) (words : List (List ℕ)) (old new : Host) (answer : Status) (order : Order) → ordered words ≡ Ok order → IsOrdered limits words old new answer → Answered (command_of limits order) old new answer
+same_order : (limits : ReadLimits) (words : List (List ℕ)) (old new : Host) (answer : Status) (order : Order) → ordered words ≡ Ok order
+    → IsOrdered limits words old new answer → Answered (command_of limits order) old new answer
 same_order limits words old new answer order is a =
     subst (λ o. Answered (command_of limits o) old new answer) (one_order words a.order order a.ordered_is is) a.answered
 
-answered : (limits : ReadLimits) (words : List (List ℕ)) (old new : Host) (answer : Status) (order : Order) → ordered words ≡ Ok order → Answers limits words old new answer → Answered (command_of limits order) old new answer
+answered : (limits : ReadLimits) (words : List (List ℕ)) (old new : Host) (answer : Status) (order : Order) → ordered words ≡ Ok order
+    → Answers limits words old new answer → Answered (command_of limits order) old new answer
 answered limits words old new NoMemory order is a = λ role unread.
     a role (λ other also. subst (λ o. ReadsNot (command_of limits o).inputs role) (one_order words order other is also) unread)
 answered limits words old new (BadWords fault) order is a =
@@ -112,7 +117,8 @@ no_order words order fault is not =
     let clash : Ok order ≡ Err fault = sym is ∙ not in cc
 
 -- words with a fault are answered by it
-finds_bad_words : (limits : ReadLimits) (words : List (List ℕ)) (old new : Host) (answer : Status) → Answers limits words old new answer → (fault : WordsFault) → ordered words ≡ Err fault → IsOrNoMemory (BadWords fault) answer
+finds_bad_words : (limits : ReadLimits) (words : List (List ℕ)) (old new : Host) (answer : Status) → Answers limits words old new answer
+    → (fault : WordsFault) → ordered words ≡ Err fault → IsOrNoMemory (BadWords fault) answer
 finds_bad_words limits words old new NoMemory a fault is = inr refl
 finds_bad_words limits words old new (BadWords given) a fault is =
     let same = sym a.0 ∙ is in let one : given ≡ fault = cc in inl (ap (λ f. BadWords f) one)
@@ -123,10 +129,12 @@ finds_bad_words limits words old new (WriteFault role) a fault is = absurd (no_o
 finds_bad_words limits words old new (TooLarge role) a fault is = absurd (no_order words a.order fault a.ordered_is is)
 
 -- so the answer of a command line is the one that it has to be
-pub is_exact : (limits : ReadLimits) (words : List (List ℕ)) (old new : Host) (answer : Status) → Answers limits words old new answer → IsExact limits words old new answer
+pub is_exact : (limits : ReadLimits) (words : List (List ℕ)) (old new : Host) (answer : Status) → Answers limits words old new answer
+    → IsExact limits words old new answer
 is_exact limits words old new answer a = record {
   bad_words = finds_bad_words limits words old new answer a;
-  ordered_words = λ order is. must_answer (command_of limits order) (is_sound limits order) old new answer (answered limits words old new answer order is a);
+  ordered_words = λ order is. must_answer (command_of limits order) (is_sound limits order) old new answer
+      (answered limits words old new answer order is a);
 }
 
 -- the same words and bytes have one outcome

@@ -67,7 +67,8 @@ pub record Stands (reads : ReadInputs) (writes : WrittenOutputs) (old new : Host
 
 -- The host is stopped at a role: those before it were read and written whole and finished, it stands as `IsCut` says, and all
 -- others are as at entry.
-pub record StopsAt (reads : ReadInputs) (writes : WrittenOutputs) (at : Role) (IsCut : Part → Part → Type 0) (old new : Host) : Type 0 where
+pub record StopsAt (reads : ReadInputs) (writes : WrittenOutputs) (at : Role) (IsCut : Part → Part → Type 0)
+    (old new : Host) : Type 0 where
   pub read : AreRead reads old new
   pub written : AreWritten writes old new
   pub cut : IsCut (old at) (new at)

@@ -10,7 +10,8 @@ use Rattle.mn_edge.specs.Fail.{IsNamed}
 use Rattle.mn_edge.proofs.fail.is_named.Goals as goal
 
 -- a fail is its three fields
-Fail-of_fields : (fail : Fail) (role : Role) (op : Op) (k : ℕ) → fail.role ≡ role → fail.op ≡ op → fail.k ≡ k → fail ≡ record { role = role; op = op; k = k }
+Fail-of_fields : (fail : Fail) (role : Role) (op : Op) (k : ℕ) → fail.role ≡ role → fail.op ≡ op → fail.k ≡ k
+    → fail ≡ record { role = role; op = op; k = k }
 Fail-of_fields fail role op k same_role same_op same_k =
     ap (λ (r : Role). record fail { role = r }) same_role
     ∙ ap (λ (o : Op). record fail { role = role; op = o }) same_op

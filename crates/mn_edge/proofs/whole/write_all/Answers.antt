@@ -8,7 +8,8 @@ pieces-preserved g c =
     let past = c.pieces.invariant in
     let rest = c.pieces.rest.now in
     let count = c.in-Ok.count in
-    let joined : (past.front ++ take count rest) ++ drop count rest ≡ past.front ++ rest = rw append_assoc (ap (λ bytes. past.front ++ bytes) (take-append-drop count rest)) in
+    let joined : (past.front ++ take count rest) ++ drop count rest ≡ past.front ++ rest = rw append_assoc
+    (ap (λ bytes. past.front ++ bytes) (take-append-drop count rest)) in
     record {
       active = Adds-active _ _ _ c.in-Ok.ensures.own ∙ past.active;
       front = past.front ++ take count rest;

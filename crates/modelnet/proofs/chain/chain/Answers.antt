@@ -8,13 +8,15 @@ use Rattle.modelnet.proofs.chain.chain.Goals as goal
 pub returns-in_err-trace : goal.returns-in_err-trace
 returns-in_err-trace g c =
     let is : c.from_residual.result ≡ Err c.in_err-trace.field-0.0 = search rules in
-    rw is (trace_stops c.args.limits.now c.args.order.now (g.H.Host.part c.args.host.now) (g.H.Host.part c.read_input.new.host) c.in_err-trace.field-0.0 c.as_str.result.now
+    rw is (trace_stops c.args.limits.now c.args.order.now (g.H.Host.part c.args.host.now)
+    (g.H.Host.part c.read_input.new.host) c.in_err-trace.field-0.0 c.as_str.result.now
     (c.as_str.ensures.lent ∙ ap (λ (o : ChainView). o.trace) c.order.view_is) c.in_err-trace.ensures.own c.in_err-trace.ensures.others)
 
 pub returns-in_err-texts : goal.returns-in_err-texts
 returns-in_err-texts g c =
     let is : c.from_residual-in_err-texts.result ≡ Err (trace_refusal c.in_err-texts.field-0.0) = search rules in
-    rw is (trace_refused c.args.limits.now c.args.order.now (g.H.Host.part c.args.host.now) (g.H.Host.part c.read_input.new.host) c.in_ok-trace.trace c.as_slice.result.now
+    rw is (trace_refused c.args.limits.now c.args.order.now (g.H.Host.part c.args.host.now)
+    (g.H.Host.part c.read_input.new.host) c.in_ok-trace.trace c.as_slice.result.now
     c.in_err-texts.field-0.0 (trace_refusal c.in_err-texts.field-0.0)
     (record {
       name = c.as_str.result.now;
@@ -41,8 +43,10 @@ returns-in_err-write_trace g c =
       same = c.as_slice.ensures.lent;
       says = c.in_ok-texts.ensures.run;
     } in
-    rw is (out_stops c.args.limits.now c.args.order.now c.in_ok-trace.trace (pcap_text texts.out) texts.report c.in_err-write_trace.field-0.0 c.as_str-2.result.now old read (g.H.Host.part c.write_trace.new.host) run
-    (c.as_str-2.ensures.lent ∙ ap (λ (o : ChainView). o.out) c.order.view_is) c.in_err-write_trace.ensures.own c.in_err-write_trace.ensures.others)
+    rw is (out_stops c.args.limits.now c.args.order.now c.in_ok-trace.trace
+    (pcap_text texts.out) texts.report c.in_err-write_trace.field-0.0 c.as_str-2.result.now old read
+    (g.H.Host.part c.write_trace.new.host) run (c.as_str-2.ensures.lent ∙ ap (λ (o : ChainView). o.out) c.order.view_is)
+    c.in_err-write_trace.ensures.own c.in_err-write_trace.ensures.others)
 
 pub returns-in_err-write_output : goal.returns-in_err-write_output
 returns-in_err-write_output g c =
@@ -62,16 +66,19 @@ returns-in_err-write_output g c =
       says = c.in_ok-texts.ensures.run;
     } in
     let out_written = g.H.Host.part c.write_trace.new.host in
-    let done : HasOut c.args.limits.now c.args.order.now c.in_ok-trace.trace (pcap_text texts.out) texts.report old read out_written = record {
+    let done : HasOut c.args.limits.now c.args.order.now c.in_ok-trace.trace
+    (pcap_text texts.out) texts.report old read out_written = record {
       run = run;
       name = c.as_str-2.result.now;
       named = c.as_str-2.ensures.lent ∙ ap (λ (o : ChainView). o.out) c.order.view_is;
       own = c.in_ok-write_trace.ensures.own;
       others = c.in_ok-write_trace.ensures.others;
     } in
-    rw is (report_stops c.args.limits.now c.args.order.now c.in_ok-trace.trace (pcap_text texts.out) texts.report c.in_err-write_output.field-0.0
+    rw is (report_stops c.args.limits.now c.args.order.now c.in_ok-trace.trace
+    (pcap_text texts.out) texts.report c.in_err-write_output.field-0.0
     c.as_str-3.result.now c.as_slice-2.result.now old read out_written (g.H.Host.part c.write_output.new.host) done
-    (c.as_str-3.ensures.lent ∙ ap (λ (o : ChainView). o.report) c.order.view_is) c.as_slice-2.ensures.lent c.in_err-write_output.ensures.own c.in_err-write_output.ensures.others)
+    (c.as_str-3.ensures.lent ∙ ap (λ (o : ChainView). o.report) c.order.view_is) c.as_slice-2.ensures.lent
+    c.in_err-write_output.ensures.own c.in_err-write_output.ensures.others)
 
 pub returns : goal.returns
 returns g c =
@@ -90,7 +97,8 @@ returns g c =
       says = c.in_ok-texts.ensures.run;
     } in
     let out_written = g.H.Host.part c.write_trace.new.host in
-    let done : HasOut c.args.limits.now c.args.order.now c.in_ok-trace.trace (pcap_text texts.out) texts.report old read out_written = record {
+    let done : HasOut c.args.limits.now c.args.order.now c.in_ok-trace.trace
+    (pcap_text texts.out) texts.report old read out_written = record {
       run = run;
       name = c.as_str-2.result.now;
       named = c.as_str-2.ensures.lent ∙ ap (λ (o : ChainView). o.out) c.order.view_is;
@@ -99,4 +107,5 @@ returns g c =
     } in
     all_done c.args.limits.now c.args.order.now c.in_ok-trace.trace (pcap_text texts.out) texts.report
     c.as_str-3.result.now c.as_slice-2.result.now old read out_written (g.H.Host.part c.write_output.new.host) done
-    (c.as_str-3.ensures.lent ∙ ap (λ (o : ChainView). o.report) c.order.view_is) c.as_slice-2.ensures.lent c.in_ok-write_output.ensures.own c.in_ok-write_output.ensures.others
+    (c.as_str-3.ensures.lent ∙ ap (λ (o : ChainView). o.report) c.order.view_is) c.as_slice-2.ensures.lent
+    c.in_ok-write_output.ensures.own c.in_ok-write_output.ensures.others

@@ -3,7 +3,8 @@ use Rattle.modelnet.proofs.chain_setup.chain_setup.Goals as goal
 
 pub new-requires : goal.new-requires
 new-requires c =
-    let s = is_setup c.args.order.now c.args.trace.now c.in_ok-parts.parts c.requires.order c.requires.trace c.requires.times c.in_ok-parts.ensures in
+    let s = is_setup c.args.order.now c.args.trace.now c.in_ok-parts.parts c.requires.order
+    c.requires.trace c.requires.times c.in_ok-parts.ensures in
     record {
       tick_least = s.tick_least;
       tick_most = s.tick_most;

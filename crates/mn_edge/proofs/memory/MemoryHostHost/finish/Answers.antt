@@ -7,5 +7,10 @@ use Rattle.mn_edge.proofs.memory.MemoryHostHost.finish.Goals as goal
 pub returns-clause-own : goal.returns-clause-own
 returns-clause-own c =
     let host = c.self.inside in
-    let after : MemoryHostView = record { fails = host.fails.items; piece = host.piece; streams = set host.streams c.index.result c.finish.new.self } in
-    Finishes-after (stream_of c.args.self.now c.args.role) (stream_of after c.args.role) c.finish.result (grind (arith, common_steps)) (grind (arith, common_steps))
+    let after : MemoryHostView = record {
+      fails = host.fails.items;
+      piece = host.piece;
+      streams = set host.streams c.index.result c.finish.new.self;
+    } in
+    Finishes-after (stream_of c.args.self.now c.args.role) (stream_of after c.args.role) c.finish.result (grind (arith, common_steps))
+    (grind (arith, common_steps))
