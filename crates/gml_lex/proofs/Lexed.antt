@@ -45,12 +45,6 @@ pub record Lexed (text rest : List ℕ) (tokens : List Token) : Type 0 where
   pub spans : All (IsSpan (length text)) tokens
   pub few : length tokens + length rest ≤ length text
 
--- before the first piece
-pub Lexed-start : (text : List ℕ) → Lexed text text []
-Lexed-start text =
-    record
-    { pieces = []; front = refl; tokens_are = refl; behind = omega arith; spans = All-nil (IsSpan (length text)); few = omega arith }
-
 -- the token that a piece is, if it is one, has the piece's span
 spans_of : (len start : ℕ) (p : Piece) → 1 ≤ p.len → start + p.len ≤ len → All (IsSpan len) (token_of start p)
 spans_of len start p least most = by_kind p.kind

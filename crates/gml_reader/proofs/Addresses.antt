@@ -7,7 +7,7 @@ use Rattle.std.proofs.lemmas.List.Sums.{prefix_len_passes, prefix_len_stops, pre
 use Rattle.std.specs.List.{list_all, prefix_len, slice_split, onto_first}
 use Rattle.mn_base.specs.Decimal.{is_digit, number_of, decimal_of}
 use Rattle.gml_lex.specs.Words.{is_point}
-use Rattle.gml_reader.specs.Values.{part_of, joined, address_from}
+use Rattle.gml_reader.specs.Values.{address_part, joined, address_from}
 
 abbrev isnt_point : ℕ → Bool
 isnt_point b = not (is_point b)
@@ -69,14 +69,14 @@ no_decimal xs e = by_tests (nat_lt 0 (length xs)) (list_all is_digit xs) (nat_lt
     by_tests true false c e = refl
     by_tests false b c e = refl
 
-no_part : (xs : List ℕ) → decimal_of xs ≡ None → part_of xs ≡ None
+no_part : (xs : List ℕ) → decimal_of xs ≡ None → address_part xs ≡ None
 no_part xs e = rw e (by_test _)
   where
     by_test : (b : Bool) → ◌≡◌ {A = Option ℕ} (cond b None None) None
     by_test true = refl
     by_test false = refl
 
-point_in_part : (xs : List ℕ) → prefix_len isnt_point xs < length xs → part_of xs ≡ None
+point_in_part : (xs : List ℕ) → prefix_len isnt_point xs < length xs → address_part xs ≡ None
 point_in_part xs some =
     let point = not_false _ (prefix_len_stops isnt_point xs 0 some) in
     no_part xs (no_decimal xs (list_all_at is_digit xs (prefix_len isnt_point xs) 0 some (point_isnt_digit _ point)))
@@ -84,16 +84,9 @@ point_in_part xs some =
 five_parts : (a b c d : List ℕ) (parts : List (List ℕ)) → IsSome' parts → address_from (a ∷ b ∷ c ∷ d ∷ parts) ≡ None
 five_parts a b c d parts s = ap (λ ps. address_from (a ∷ b ∷ c ∷ d ∷ ps)) s.is
 
-pub last_part : (a b c d : List ℕ) → address_from (a ∷ b ∷ c ∷ slice_split is_point d) ≡ joined (part_of a) (part_of b) (part_of c) (part_of d)
+pub last_part : (a b c d : List ℕ) → address_from (a ∷ b ∷ c ∷ slice_split is_point d) ≡ joined (address_part a) (address_part b) (address_part c) (address_part d)
 last_part a b c d =
     elim (cases_lt (prefix_len isnt_point d) (length d)) [
-      | inl some ↦ ap (λ ps. address_from (a ∷ b ∷ c ∷ ps)) (first_part d (prefix_len isnt_point d) refl some) ∙ five_parts a b c (take (prefix_len isnt_point d) d) (slice_split is_point (drop (prefix_len isnt_point d + 1) d)) (split_some (drop (prefix_len isnt_point d + 1) d)) ∙ sym (ap (joined (part_of a) (part_of b) (part_of c)) (point_in_part d some) ∙ joined-None (part_of a) (part_of b) (part_of c))
+      | inl some ↦ ap (λ ps. address_from (a ∷ b ∷ c ∷ ps)) (first_part d (prefix_len isnt_point d) refl some) ∙ five_parts a b c (take (prefix_len isnt_point d) d) (slice_split is_point (drop (prefix_len isnt_point d + 1) d)) (split_some (drop (prefix_len isnt_point d + 1) d)) ∙ sym (ap (joined (address_part a) (address_part b) (address_part c)) (point_in_part d some) ∙ joined-None (address_part a) (address_part b) (address_part c))
       | inr whole ↦ let within = prefix_len-le-length isnt_point d in ap (λ ps. address_from (a ∷ b ∷ c ∷ ps)) (one_part d (prefix_len isnt_point d) refl (omega (arith, whole, within)))
     ]
-
--- all four
-pub four_parts : (xs a r b s c d : List ℕ) (w x y z o : Option ℕ) → slice_split is_point xs ≡ a ∷ slice_split is_point r → slice_split is_point r ≡ b ∷ slice_split is_point s → slice_split is_point s ≡ c ∷ slice_split is_point d → w ≡ part_of a → x ≡ part_of b → y ≡ part_of c → z ≡ part_of d → o ≡ joined w x y z → o ≡ address_from (slice_split is_point xs)
-four_parts xs a r b s c d w x y z o first second third ws xs' ys zs os =
-    let cut : slice_split is_point xs ≡ a ∷ b ∷ c ∷ slice_split is_point d = first ∙ ap (λ ps. a ∷ ps) (second ∙ ap (λ ps. b ∷ ps) third) in
-    let same : joined w x y z ≡ joined (part_of a) (part_of b) (part_of c) (part_of d) = cc in
-    os ∙ same ∙ sym (ap address_from cut ∙ last_part a b c d)

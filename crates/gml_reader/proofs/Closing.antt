@@ -26,19 +26,19 @@ one_more o e later is = ap (λ x. closing_at x later) is
 pub closing-spelled : (len : ℕ) (t : Pairs) (d : ℕ) (rest : List Token) → IsListIn len t → closing (spelled t ++ rest) d ≡ length (spelled t) + closing rest d
 closing-spelled len done d rest l = omega arith
 closing-spelled len (plain key value more) d rest l =
-    let later = closing-spelled len more d rest l.4 in
-    let one = one_more _ d (closing (value ∷ (spelled more ++ rest))) (depth_of key.kind kind.Key d l.0) in
-    let two = one_more _ d (closing (spelled more ++ rest)) (plain_step value.kind d l.1) in
+    let later = closing-spelled len more d rest l.more in
+    let one = one_more _ d (closing (value ∷ (spelled more ++ rest))) (depth_of key.kind kind.Key d l.is_key) in
+    let two = one_more _ d (closing (spelled more ++ rest)) (plain_step value.kind d l.is_plain) in
     omega (arith, one, two, later)
 closing-spelled len (nested key left inner right more) d rest l =
     let close = right ∷ (spelled more ++ rest) in
     let shape : (spelled inner ++ (right ∷ spelled more)) ++ rest ≡ spelled inner ++ close = append_assoc (spelled inner) (right ∷ spelled more) rest in
-    let one = one_more _ d (closing (left ∷ ((spelled inner ++ (right ∷ spelled more)) ++ rest))) (depth_of key.kind kind.Key d l.0) in
-    let two = one_more _ (suc d) (closing ((spelled inner ++ (right ∷ spelled more)) ++ rest)) (depth_of left.kind kind.Left d l.1) in
+    let one = one_more _ d (closing (left ∷ ((spelled inner ++ (right ∷ spelled more)) ++ rest))) (depth_of key.kind kind.Key d l.is_key) in
+    let two = one_more _ (suc d) (closing ((spelled inner ++ (right ∷ spelled more)) ++ rest)) (depth_of left.kind kind.Left d l.opens) in
     let three = ap (λ ts. closing ts (suc d)) shape in
-    let four = closing-spelled len inner (suc d) close l.3 in
-    let five = one_more _ d (closing (spelled more ++ rest)) (depth_of right.kind kind.Right (suc d) l.4) in
-    let six = closing-spelled len more d rest l.5 in
+    let four = closing-spelled len inner (suc d) close l.inner in
+    let five = one_more _ d (closing (spelled more ++ rest)) (depth_of right.kind kind.Right (suc d) l.closes) in
+    let six = closing-spelled len more d rest l.more in
     omega (arith, one, two, three, four, five, six, length-append (spelled inner) (right ∷ spelled more))
 
 -- the Right of a list that begins here
@@ -47,23 +47,3 @@ closing-inner len inner right back l closes =
     let one = closing-spelled len inner 0 (right ∷ back) l in
     let two = ap (λ o. closing_at o (closing back)) (depth_of right.kind kind.Right 0 closes) in
     omega (arith, one, two)
-
--- one token more
-pub closing-more : (tokens : List Token) (at : ℕ) (none : Token) (d e total : ℕ) → at < length tokens → at + closing (drop at tokens) d ≡ total → Some e ≡ depth_behind (get_or tokens at none).kind d → (at + 1) + closing (drop (at + 1) tokens) e ≡ total
-closing-more tokens at none d e total within so_far here =
-    let step : closing (drop at tokens) d ≡ closing (get_or tokens at none ∷ drop (at + 1) tokens) d = ap (λ ts. closing ts d) (drop_more tokens at none within) in
-    let one = one_more _ e (closing (drop (at + 1) tokens)) (sym here) in
-    omega (arith, so_far, step, one)
-
--- it closes the list
-pub closing-here : (tokens : List Token) (at : ℕ) (none : Token) (d total : ℕ) → at < length tokens → at + closing (drop at tokens) d ≡ total → None ≡ depth_behind (get_or tokens at none).kind d → at ≡ total
-closing-here tokens at none d total within so_far here =
-    let step : closing (drop at tokens) d ≡ closing (get_or tokens at none ∷ drop (at + 1) tokens) d = ap (λ ts. closing ts d) (drop_more tokens at none within) in
-    let none_left = ap (λ o. closing_at o (closing (drop (at + 1) tokens))) (sym here) in
-    omega (arith, so_far, step, none_left)
-
--- no token does
-pub closing-end : (tokens : List Token) (at d total : ℕ) → length tokens ≡ at → at + closing (drop at tokens) d ≡ total → at ≡ total
-closing-end tokens at d total end so_far =
-    let empty = ap (λ ts. closing ts d) (drop_all at tokens (omega (arith, end))) in
-    omega (arith, so_far, empty)

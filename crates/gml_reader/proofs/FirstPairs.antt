@@ -5,12 +5,12 @@ use Rattle.std.specs.Borrow.{Bor}
 use Rattle.gml_lex.specs.declared.kinds.TokenKind.{TokenKind}
 use Rattle.gml_lex.specs.declared.kinds.TokenKind.TheVariants as kind
 use Rattle.gml_lex.specs.declared.kinds.Token.{Token}
-use Rattle.gml_reader.specs.declared.walk.Value.TheVariants.{Inner}
+use Rattle.gml_reader.specs.declared.walk.ValueTokens.TheVariants.{Inner}
 use Rattle.gml_reader.specs.declared.walk.FirstPair.{FirstPair}
 use Rattle.gml_reader.specs.Grammar.{Pairs, done, plain, nested, spelled, IsPlain}
 use Rattle.gml_reader.specs.Walk.{IsListIn, IsPairOf, closing}
 use Rattle.gml_reader.proofs.Closing.{closing-inner}
-use Rattle.gml_reader.proofs.Completions.{tail_is}
+use Rattle.gml_reader.proofs.TokenLists.{tail_is}
 
 -- fewer than two tokens are no pair
 pub no_pair : (t : Pairs) (tokens : List Token) → tokens ≡ spelled t → length tokens < 2 → t ≡ done
@@ -18,9 +18,11 @@ no_pair done tokens same few = refl
 no_pair (plain key value more) tokens same few = absurd (omega (arith, ap length same))
 no_pair (nested key left inner right more) tokens same few = absurd (omega (arith, ap length same))
 
+-- a plain value is no Left
 left_is_no_value : (k : TokenKind) → k ≡ kind.Left → IsPlain k → ⊥
 left_is_no_value k is simple = subst IsPlain is simple
 
+-- the code's pair of a key and a list
 abbrev inner_pair : Token → Bor (List Token) → Bor (List Token) → FirstPair
 inner_pair key inner rest = record { key = key; value = Inner inner; rest = rest }
 
@@ -29,20 +31,35 @@ pub record IsClosed (len : ℕ) (t : Pairs) (key : Token) (behind : List Token) 
   pub closed : 0 < length (drop end behind)
   pub pair : (inner rest : Bor (List Token)) (right : Token) → inner.now ≡ take end behind → drop end behind ≡ right ∷ rest.now → IsPairOf len t (inner_pair key inner rest)
 
-closed_list : (len : ℕ) (t : Pairs) (none : Token) (end : ℕ) → IsListIn len t → 2 ≤ length (spelled t) → (get_or (spelled t) 1 none).kind ≡ kind.Left → end ≡ closing (drop 2 (spelled t)) 0 → IsClosed len t (get_or (spelled t) 0 none) (drop 2 (spelled t)) end
-closed_list len done none end l some opens is = absurd (omega arith)
-closed_list len (plain key value more) none end l some opens is = absurd (left_is_no_value value.kind opens l.1)
-closed_list len (nested key left inner right more) none end l some opens is =
-    let at_right : end ≡ length (spelled inner) = is ∙ closing-inner len inner right (spelled more) l.3 l.4 in
-    let front : take end (spelled inner ++ (right ∷ spelled more)) ≡ spelled inner = take_at (spelled inner) (right ∷ spelled more) end (sym at_right) in
-    let back : drop end (spelled inner ++ (right ∷ spelled more)) ≡ right ∷ spelled more = drop_at (spelled inner) (right ∷ spelled more) end (sym at_right) in
-    record {
-      closed = omega (arith, ap length back);
-      pair = λ i r first inner_is rest_is. (refl, (l.3, inner_is ∙ front), tail_is first right r.now (spelled more) (sym rest_is ∙ back));
-    }
+-- tokens whose second is a Left, what stands behind it, and where its list ends there
+pub record Opens (tokens : List Token) (none : Token) (behind : List Token) (end : ℕ) : Type 0 where
+  pub some : 2 ≤ length tokens
+  pub opens : (get_or tokens 1 none).kind ≡ kind.Left
+  pub behind_is : behind ≡ drop 2 tokens
+  pub end_is : end ≡ closing behind 0
 
-pub closes : (len : ℕ) (t : Pairs) (tokens behind : List Token) (none : Token) (end : ℕ) → IsListIn len t → tokens ≡ spelled t → 2 ≤ length tokens → (get_or tokens 1 none).kind ≡ kind.Left → behind ≡ drop 2 tokens → end ≡ closing behind 0 → IsClosed len t (get_or tokens 0 none) behind end
-closes len t tokens behind none end l same some opens rest is =
-    let behind_is : behind ≡ drop 2 (spelled t) = rest ∙ ap (drop 2) same in
-    let whole = closed_list len t none end l (subst (λ ts. 2 ≤ length ts) same some) (subst (λ ts. (get_or ts 1 none).kind ≡ kind.Left) same opens) (is ∙ ap (λ ts. closing ts 0) behind_is) in
-    subst (λ ts. IsClosed len t (get_or ts 0 none) behind end) (sym same) (subst (λ ts. IsClosed len t (get_or (spelled t) 0 none) ts end) (sym behind_is) whole)
+-- a list with a first value that begins with a Left has a list as its first value
+closed_list : (len : ℕ) (t : Pairs) (none : Token) (behind : List Token) (end : ℕ) → IsListIn len t
+    → Opens (spelled t) none behind end → IsClosed len t (get_or (spelled t) 0 none) behind end
+closed_list len done none behind end l open_list = absurd (let some : 2 ≤ 0 = open_list.some in omega arith)
+closed_list len (plain key value more) none behind end l open_list = absurd (left_is_no_value value.kind open_list.opens l.is_plain)
+closed_list len (nested key left inner right more) none behind end l open_list =
+    let later = spelled inner ++ (right ∷ spelled more) in
+    let at_right : end ≡ length (spelled inner) =
+    open_list.end_is ∙ ap (λ ts. closing ts 0) open_list.behind_is ∙ closing-inner len inner right (spelled more) l.inner l.closes in
+    let front : take end later ≡ spelled inner = take_at (spelled inner) (right ∷ spelled more) end (sym at_right) in
+    let back : drop end later ≡ right ∷ spelled more = drop_at (spelled inner) (right ∷ spelled more) end (sym at_right) in
+    subst (λ ts. IsClosed len (nested key left inner right more) key ts end) (sym open_list.behind_is) (record {
+      closed = omega (arith, ap length back);
+      pair = λ i r first inner_is rest_is. record {
+        key_is = refl;
+        value_is = (l.inner, inner_is ∙ front);
+        rest_is = tail_is first right r.now (spelled more) (sym rest_is ∙ back);
+      };
+    })
+
+pub closes : {len : ℕ} {t : Pairs} {tokens : List Token} {none : Token} {behind : List Token} {end : ℕ} → IsListIn len t
+    → tokens ≡ spelled t → Opens tokens none behind end → IsClosed len t (get_or tokens 0 none) behind end
+closes {len} {t} {tokens} {none} {behind} {end} l same open_list =
+    subst (λ ts. IsClosed len t (get_or ts 0 none) behind end) (sym same)
+    (closed_list len t none behind end l (subst (λ ts. Opens ts none behind end) same open_list))

@@ -1,4 +1,9 @@
-pub mod Completions
+pub mod TokenLists
+pub mod Ends
+pub mod KeySteps
+pub mod ListSteps
+pub mod ValueSteps
+pub mod Steps
 pub mod Checked
 pub mod Closing
 pub mod FirstPairs

@@ -75,7 +75,7 @@ one_misplaced tokens Cut (Deep other) a b = absurd (not_deep tokens (length toke
 one_misplaced tokens Cut Cut a b = refl
 
 front_of_file : (tokens : List Token) → IsFile tokens → IsFront tokens
-front_of_file tokens f = record { more = []; file = f.0; list = f.1; spelled_is = append-nil tokens ∙ f.2 }
+front_of_file tokens f = record { more = []; file = f.file; list = f.list; spelled_is = append-nil tokens ∙ f.spelled_is }
 
 pub not_misplaced : (tokens : List Token) (m : Misplaced) → IsFile tokens → IsShallow tokens → IsMisplaced tokens m → ⊥
 not_misplaced tokens (Bad at) file shallow m = not_bad tokens at (front_of_file tokens file) m

@@ -60,7 +60,7 @@ seen text (fault.BadAddress n) is = inr (inr is)
 seen text (fault.Topo f) is = inr (inr is)
 
 file_of : (text : List ℕ) (file : Pairs) (t : IsTextOf text file) → IsFile t.tokens
-file_of text file t = (file, t.list, t.spelled_is)
+file_of text file t = record { file = file; list = t.list; spelled_is = t.spelled_is }
 
 one_file : (text : List ℕ) (file other : Pairs) → IsTextOf text file → IsTextOf text other → file ≡ other
 one_file text file other a b =

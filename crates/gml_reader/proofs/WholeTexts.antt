@@ -11,16 +11,16 @@ use Rattle.topo.specs.TopologyView.{TopologyView}
 use Rattle.gml_lex.specs.declared.kinds.Token.{Token}
 use Rattle.gml_reader.specs.declared.faults.GmlFault.{GmlFault}
 use Rattle.gml_reader.specs.declared.faults.GmlFault.TheVariants as fault
-use Rattle.gml_reader.specs.Grammar.{Pairs, done, plain, nested, spelled, IsList}
+use Rattle.gml_lex.specs.Tokens.{AreTokens}
+use Rattle.gml_reader.specs.Grammar.{Pairs, done, plain, nested, spelled, IsList, IsFile}
+use Rattle.gml_reader.specs.Places.{IsShallow}
 use Rattle.gml_reader.specs.Values.{pairs}
 use Rattle.gml_reader.specs.Walk.{IsListIn}
 use Rattle.gml_reader.specs.Reading.{graph_in, fault_in}
 use Rattle.gml_reader.specs.ReadGraph.{IsGraph, IsGraphRead}
 use Rattle.gml_reader.specs.Texts.{IsTextOf, Reads, IsFileFault, IsFirstFault}
+use Rattle.gml_lex.proofs.Lexed.{IsSpan}
 use Rattle.gml_reader.proofs.ReadFaults.{first_fault_of}
-
-abbrev IsSpan : ℕ → Token → Type 0
-IsSpan len t = (t.start < t.end) × (t.end ≤ len)
 
 in_front : (len : ℕ) (xs ys : List Token) → All (IsSpan len) (xs ++ ys) → All (IsSpan len) xs
 in_front len xs ys all k d within =
@@ -30,15 +30,40 @@ in_back : (len : ℕ) (xs ys : List Token) → All (IsSpan len) (xs ++ ys) → A
 in_back len xs ys all k d within =
     subst (IsSpan len) (get_or-append-add xs ys k d) (all (length xs + k) d (omega (arith, within, length-append xs ys)))
 
+-- keys and values end where tokens do
 list_in_spans : (len : ℕ) (t : Pairs) → IsList t → All (IsSpan len) (spelled t) → IsListIn len t
 list_in_spans len done l all = tt
 list_in_spans len (plain key value more) l all =
     let rest = All-tail (IsSpan len) key (value ∷ spelled more) all in
-    (l.0, l.1, (All-head (IsSpan len) key (value ∷ spelled more) all).1, (All-head (IsSpan len) value (spelled more) rest).1, list_in_spans len more l.2 (All-tail (IsSpan len) value (spelled more) rest))
+    record {
+      is_key = l.is_key;
+      is_plain = l.is_plain;
+      key_within = (All-head (IsSpan len) key (value ∷ spelled more) all).1;
+      value_within = (All-head (IsSpan len) value (spelled more) rest).1;
+      more = list_in_spans len more l.more (All-tail (IsSpan len) value (spelled more) rest);
+    }
 list_in_spans len (nested key left inner right more) l all =
-    let rest = All-tail (IsSpan len) left (spelled inner ++ (right ∷ spelled more)) (All-tail (IsSpan len) key (left ∷ (spelled inner ++ (right ∷ spelled more))) all) in
-    let behind = All-tail (IsSpan len) right (spelled more) (in_back len (spelled inner) (right ∷ spelled more) rest) in
-    (l.0, l.1, (All-head (IsSpan len) key (left ∷ (spelled inner ++ (right ∷ spelled more))) all).1, list_in_spans len inner l.2 (in_front len (spelled inner) (right ∷ spelled more) rest), l.3, list_in_spans len more l.4 behind)
+    let later = spelled inner ++ (right ∷ spelled more) in
+    let rest = All-tail (IsSpan len) left later (All-tail (IsSpan len) key (left ∷ later) all) in
+    record {
+      is_key = l.is_key;
+      opens = l.opens;
+      key_within = (All-head (IsSpan len) key (left ∷ later) all).1;
+      inner = list_in_spans len inner l.inner (in_front len (spelled inner) (right ∷ spelled more) rest);
+      closes = l.closes;
+      more = list_in_spans len more l.more (
+          All-tail (IsSpan len) right (spelled more) (in_back len (spelled inner) (right ∷ spelled more) rest));
+    }
+
+-- a file of the text's tokens is the text's
+pub text_of : (text : List ℕ) (tokens : List Token) → AreTokens text tokens → (f : IsFile tokens) → IsShallow tokens → IsTextOf text f.file
+text_of text tokens are f shallow = record {
+  tokens = tokens;
+  are = are;
+  list = f.list;
+  spelled_is = f.spelled_is;
+  shallow = shallow;
+}
 
 pub list_in_text : (len : ℕ) (t : Pairs) (tokens : List Token) → IsList t → tokens ≡ spelled t → All (IsSpan len) tokens → IsListIn len t
 list_in_text len t tokens l same all = list_in_spans len t l (subst (All (IsSpan len)) same all)

@@ -25,16 +25,31 @@ IsPlain kind.Text = Unit {0}
 IsPlain kind.Left = ⊥
 IsPlain kind.Right = ⊥
 
--- each token is of the kind that its place asks for
+-- a key with a plain value, and a fact of the pairs after them
+pub record IsPlainPair (key value : Token) (Later : Type 0) : Type 0 where
+  pub is_key : key.kind ≡ kind.Key
+  pub is_plain : IsPlain value.kind
+  pub more : Later
+
+-- a key with a list, a fact of what is in it, and one of the pairs after it
+pub record IsNestedPair (key left right : Token) (Inside Later : Type 0) : Type 0 where
+  pub is_key : key.kind ≡ kind.Key
+  pub opens : left.kind ≡ kind.Left
+  pub inner : Inside
+  pub closes : right.kind ≡ kind.Right
+  pub more : Later
+
+-- each token is of the kind that the grammar asks for there
 abbrev pub IsList : Pairs → Type 0
 IsList done = Unit {0}
-IsList (plain key value more) = (key.kind ≡ kind.Key) × IsPlain value.kind × IsList more
-IsList (nested key left inner right more) =
-    (key.kind ≡ kind.Key) × (left.kind ≡ kind.Left) × IsList inner × (right.kind ≡ kind.Right) × IsList more
+IsList (plain key value more) = IsPlainPair key value (IsList more)
+IsList (nested key left inner right more) = IsNestedPair key left right (IsList inner) (IsList more)
 
 -- a file is a list
-abbrev pub IsFile : List Token → Type 0
-IsFile tokens = (file : Pairs) × IsList file × (tokens ≡ spelled file)
+pub record IsFile (tokens : List Token) : Type 0 where
+  pub file : Pairs
+  pub list : IsList file
+  pub spelled_is : tokens ≡ spelled file
 
 -- with more tokens it would be a file
 pub record IsFront (tokens : List Token) : Type 0 where

@@ -4,20 +4,20 @@ use Rattle.std.proofs.Common.{zero, suc}
 use Rattle.gml_lex.specs.declared.kinds.TokenKind.{TokenKind}
 use Rattle.gml_lex.specs.declared.kinds.TokenKind.TheVariants as kind
 use Rattle.gml_reader.specs.declared.grammar.Wanted.{Wanted}
-use Rattle.gml_reader.specs.declared.grammar.Wanted.TheVariants.{Pair, Value}
+use Rattle.gml_reader.specs.declared.grammar.Wanted.TheVariants.{KeyOrEnd, Value}
 
 -- what is wanted behind a token, and how many lists are open there
 abbrev pub after : Wanted → ℕ → TokenKind → Option (Wanted × ℕ)
-after Pair depth kind.Key = Some (Value, depth)
-after Pair zero kind.Right = None
-after Pair (suc depth) kind.Right = Some (Pair, depth)
-after Pair depth kind.Integer = None
-after Pair depth kind.Real = None
-after Pair depth kind.Text = None
-after Pair depth kind.Left = None
+after KeyOrEnd depth kind.Key = Some (Value, depth)
+after KeyOrEnd zero kind.Right = None
+after KeyOrEnd (suc depth) kind.Right = Some (KeyOrEnd, depth)
+after KeyOrEnd depth kind.Integer = None
+after KeyOrEnd depth kind.Real = None
+after KeyOrEnd depth kind.Text = None
+after KeyOrEnd depth kind.Left = None
 after Value depth kind.Key = None
-after Value depth kind.Integer = Some (Pair, depth)
-after Value depth kind.Real = Some (Pair, depth)
-after Value depth kind.Text = Some (Pair, depth)
-after Value depth kind.Left = Some (Pair, suc depth)
+after Value depth kind.Integer = Some (KeyOrEnd, depth)
+after Value depth kind.Real = Some (KeyOrEnd, depth)
+after Value depth kind.Text = Some (KeyOrEnd, depth)
+after Value depth kind.Left = Some (KeyOrEnd, suc depth)
 after Value depth kind.Right = None

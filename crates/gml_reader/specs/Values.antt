@@ -10,18 +10,18 @@ use Rattle.gml_lex.specs.Words.{is_point}
 use Rattle.gml_reader.specs.Grammar.{Pairs, done, plain, nested}
 
 -- one token, or the pairs of a list
-pub data Value : Type 0 where
-  leaf : Token → Value
-  list : Pairs → Value
+pub data ValueTree : Type 0 where
+  leaf : Token → ValueTree
+  list : Pairs → ValueTree
 
-pub record Pair : Type 0 where
+pub record PairTree : Type 0 where
   pub key : Token
-  pub value : Value
+  pub value : ValueTree
 
-abbrev pub pair : Token → Value → Pair
+abbrev pub pair : Token → ValueTree → PairTree
 pair k v = record { key = k; value = v }
 
-abbrev pub pairs : Pairs → List Pair
+abbrev pub pairs : Pairs → List PairTree
 pairs done = []
 pairs (plain key value more) = pair key (leaf value) ∷ pairs more
 pairs (nested key left inner right more) = pair key (list inner) ∷ pairs more
@@ -34,11 +34,11 @@ bytes_of text token = slice_range text token.start token.end
 abbrev pub content_of : List ℕ → Token → List ℕ
 content_of text token = slice_range text (token.start + 1) (token.end - 1)
 
-abbrev pub is_named : List ℕ → List ℕ → Pair → Bool
+abbrev pub is_named : List ℕ → List ℕ → PairTree → Bool
 is_named text name p = bytes_eq (bytes_of text p.key) name
 
 -- the value of the first pair with this key
-abbrev pub value_at : List ℕ → List ℕ → List Pair → Option Value
+abbrev pub value_at : List ℕ → List ℕ → List PairTree → Option ValueTree
 value_at text name ps = option_map (λ p. p.value) (find (is_named text name) ps)
 
 -- ---- numbers
@@ -59,14 +59,14 @@ number_of_kind text token kind.Text = small_number (content_of text token)
 number_of_kind text token kind.Left = None
 number_of_kind text token kind.Right = None
 
-unfoldable pub number_in : List ℕ → Value → Option ℕ
+unfoldable pub number_in : List ℕ → ValueTree → Option ℕ
 number_in text (leaf token) = number_of_kind text token token.kind
 number_in text (list inner) = None
 
 -- ---- addresses
 -- one to three digits, of at most 255
-abbrev pub part_of : List ℕ → Option ℕ
-part_of bytes =
+abbrev pub address_part : List ℕ → Option ℕ
+address_part bytes =
     if nat_le (length bytes) 3 then option_and_then (λ n. if nat_le n 255 then Some n else None) (decimal_of bytes) else None
 
 -- four bytes, the first highest
@@ -79,7 +79,7 @@ address_from [] = None
 address_from (a ∷ []) = None
 address_from (a ∷ b ∷ []) = None
 address_from (a ∷ b ∷ c ∷ []) = None
-address_from (a ∷ b ∷ c ∷ d ∷ []) = joined (part_of a) (part_of b) (part_of c) (part_of d)
+address_from (a ∷ b ∷ c ∷ d ∷ []) = joined (address_part a) (address_part b) (address_part c) (address_part d)
 address_from (a ∷ b ∷ c ∷ d ∷ e ∷ more) = None
 
 -- four parts joined by points

@@ -2,7 +2,7 @@ ghost use Rattle.std.specs.Prelude.{◌≡◌, ◌≤◌, length, MatchOption, [
 ghost use Rattle.std.specs.List.{slice_range, slice_split, prefix_len};
 ghost use Rattle.std.specs.Str.{bytes_eq};
 ghost use Rattle.gml_lex.specs.Words.{is_point};
-ghost use Rattle.gml_reader.specs.Values.{bytes_of, content_of, without_plus, small_number, part_of, joined, address_of};
+ghost use Rattle.gml_reader.specs.Values.{bytes_of, content_of, without_plus, small_number, address_part, joined, address_of};
 
 use gml_lex::Token;
 use mn_base::read_u64;
@@ -99,7 +99,7 @@ fn part_len(bytes: &[u8]) -> usize
 
 /// One to three digits, of at most 255.
 fn part(bytes: &[u8]) -> Option<u8>
-    ensures { result ≡ part_of bytes.now }
+    ensures { result ≡ address_part bytes.now }
 {
     if bytes.len() > 3 {
         return None;

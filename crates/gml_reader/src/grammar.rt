@@ -23,7 +23,7 @@ pub(crate) enum Misplaced {
 #[derive(Clone, Copy, Debug, PartialEq, Eq)]
 pub(crate) enum Wanted {
     /// A key, or the end of the list.
-    Pair,
+    KeyOrEnd,
     /// A value.
     Value,
 }
@@ -34,7 +34,7 @@ pub(crate) fn check(tokens: &[Token]) -> Result<(), Misplaced>
     ensures shallow { OnOk result (IsShallow tokens.now) }
     ensures fault { IfErr result (IsMisplaced tokens.now) }
 {
-    let mut wanted = Wanted::Pair;
+    let mut wanted = Wanted::KeyOrEnd;
     let mut depth = 0usize;
     for (at, token) in tokens.iter().enumerate() {
         let Some((next, deeper)) = after(wanted, depth, token.kind) else {
@@ -47,7 +47,7 @@ pub(crate) fn check(tokens: &[Token]) -> Result<(), Misplaced>
         depth = deeper;
     }
     match wanted {
-        Wanted::Pair if depth == 0 => Ok(()),
+        Wanted::KeyOrEnd if depth == 0 => Ok(()),
         _ => Err(Misplaced::Cut),
     }
 }
@@ -58,14 +58,17 @@ fn after(wanted: Wanted, depth: usize, kind: TokenKind) -> Option<(Wanted, usize
     ensures { result ≡ after wanted depth kind }
 {
     match wanted {
-        Wanted::Pair => match kind {
+        Wanted::KeyOrEnd => match kind {
             TokenKind::Key => Some((Wanted::Value, depth)),
-            TokenKind::Right if depth > 0 => Some((Wanted::Pair, depth - 1)),
+            TokenKind::Right if depth > 0 => Some((Wanted::KeyOrEnd, depth - 1)),
             _ => None,
         },
         Wanted::Value => match kind {
-            TokenKind::Integer | TokenKind::Real | TokenKind::Text => Some((Wanted::Pair, depth)),
-            TokenKind::Left => Some((Wanted::Pair, depth + 1)),
+            TokenKind::Integer | TokenKind::Real | TokenKind::Text => Some((
+                Wanted::KeyOrEnd,
+                depth,
+            )),
+            TokenKind::Left => Some((Wanted::KeyOrEnd, depth + 1)),
             _ => None,
         },
     }

@@ -1,4 +1,5 @@
 ghost use Rattle.std.specs.Prelude.{◌≡◌, ◌<◌, ◌≤◌, ◌^◌, ◌+◌, length, vec_len, IfOk, IfSome, OnOk};
+ghost use Rattle.mn_base.specs.declared.limits.TheConstants.{TOPOLOGY_BYTES_MAX};
 ghost use Rattle.gml_reader.specs.Grammar.{Pairs, spelled};
 ghost use Rattle.gml_reader.specs.Values.{pairs};
 ghost use Rattle.gml_reader.specs.Values as tree;
@@ -10,7 +11,7 @@ use crate::bytes::is_named;
 use crate::faults::{GmlFault, Item};
 use crate::items::{edge, node};
 use crate::keys::{number_in, value_at};
-use crate::walk::{FirstPair, Value};
+use crate::walk::{FirstPair, ValueTokens};
 use gml_lex::Token;
 use mn_base::Refusal;
 use std::alloc::Global;
@@ -26,7 +27,7 @@ pub(crate) fn graph_in<'t>(text: &[u8], tokens: &'t [Token]) -> Option<&'t [Toke
     let mut rest = tokens;
     while let Some(pair) = FirstPair::of(rest) {
         if is_named(text, pair.key, b"graph") {
-            if let Value::Inner(graph) = pair.value {
+            if let ValueTokens::Inner(graph) = pair.value {
                 return Some(graph);
             }
         }
@@ -41,7 +42,7 @@ fn directed(text: &[u8], graph: &[Token]) -> Result<bool, GmlFault>
     ensures { (t : Pairs) → IsListIn (length text.now) t → graph.now ≡ spelled t
         → IsDirected text.now (pairs t) result }
 {
-    let Some(value) = value_at(text, graph, b"directed") else {
+    let Some(value) = value_at(text, graph, Key::Directed.name().as_bytes()) else {
         return Ok(false);
     };
     match number_in(text, value) {
@@ -68,18 +69,18 @@ impl Items {
     fn read(&mut self, text: &[u8], pair: FirstPair) -> Result<(), Refusal<GmlFault>>
         requires nodes { vec_len self.old.nodes < 2 ^ 32 }
         requires edges { vec_len self.old.edges < 2 ^ 32 }
-        ensures item { (p : tree.Pair) → IsPair (length text.now) p pair.entry
+        ensures item { (p : tree.PairTree) → IsPair (length text.now) p pair.entry
             → IsItem text.now self.old.nodes.items self.old.edges.items p
             self.new.nodes.items self.new.edges.items result }
         ensures one_node { OnOk result (vec_len self.new.nodes ≤ vec_len self.old.nodes + 1) }
         ensures one_edge { OnOk result (vec_len self.new.edges ≤ vec_len self.old.edges + 1) }
     {
-        if is_named(text, pair.key, b"node") {
+        if is_named(text, pair.key, Key::Node.name().as_bytes()) {
             match node(text, self.nodes.len() as u32, pair.value) {
                 Ok(node) => self.nodes.push(node)?,
                 Err(fault) => return Err(Refusal::Fault(fault)),
             }
-        } else if is_named(text, pair.key, b"edge") {
+        } else if is_named(text, pair.key, Key::Edge.name().as_bytes()) {
             match edge(text, self.edges.len() as u32, pair.value) {
                 Ok(edge) => self.edges.push(edge)?,
                 Err(fault) => return Err(Refusal::Fault(fault)),
@@ -91,7 +92,7 @@ impl Items {
 
 /// The nodes and edges of a graph, or the first fault among them.
 fn read_items(alloc: Global, text: &[u8], graph: &[Token]) -> Result<Items, Refusal<GmlFault>>
-    requires { length graph.now ≤ 16777216 }
+    requires { length graph.now ≤ TOPOLOGY_BYTES_MAX }
     ensures items { (t : Pairs) → IsListIn (length text.now) t → graph.now ≡ spelled t
         → AreItems text.now (pairs t) result }
     ensures few_nodes { IfOk result (λ i. vec_len i.nodes < 2 ^ 32) }
@@ -115,7 +116,7 @@ pub(crate) fn read_graph(
     text: &[u8],
     graph: &[Token],
 ) -> Result<Topology, Refusal<GmlFault>>
-    requires { length graph.now ≤ 16777216 }
+    requires { length graph.now ≤ TOPOLOGY_BYTES_MAX }
     ensures { (t : Pairs) → IsListIn (length text.now) t → graph.now ≡ spelled t
         → IsGraphRead text.now (pairs t) result }
 {
@@ -126,7 +127,6 @@ pub(crate) fn read_graph(
     let Items { nodes, edges } = read_items(alloc, text, graph)?;
     match Topology::new(alloc, nodes, edges, directed) {
         Ok(topology) => Ok(topology),
-        Err(Refusal::NoMemory) => Err(Refusal::NoMemory),
-        Err(Refusal::Fault(fault)) => Err(Refusal::Fault(GmlFault::Topo(fault))),
+        Err(refusal) => Err(refusal.map_fault(GmlFault::Topo)),
     }
 }

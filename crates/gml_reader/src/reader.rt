@@ -1,5 +1,6 @@
 ghost use Rattle.std.specs.Prelude.{◌<◌, ◌≤◌, length, All, IfOk, IfErr};
 ghost use Rattle.gml_lex.specs.Tokens.{AreTokens};
+ghost use Rattle.mn_base.specs.declared.limits.TheConstants.{TOPOLOGY_BYTES_MAX};
 ghost use Rattle.gml_reader.specs.Places.{IsMisplaced};
 ghost use Rattle.mn_base.specs.Refused.{IfFault, Gives, Refuses};
 ghost use Rattle.topo.specs.TopologyView.{TopologyView};
@@ -18,7 +19,7 @@ use topo::Topology;
 /// `graph [ ]` reads to the topology of no node; the empty text has `NoGraph`, `graph [ ? ]` has `Lex` at 8, and
 /// `graph [ node [ id 0 ]` has `Grammar` at 21. GML is that of Himsolt's report, within this project's profile.
 pub fn read_gml(alloc: Global, text: &[u8]) -> Result<Topology, Refusal<GmlFault>>
-    requires { length text.now ≤ 16777216 }
+    requires { length text.now ≤ TOPOLOGY_BYTES_MAX }
     ensures read { IfOk result (Reads text.now) }
     ensures fault { IfErr result (λ e. IfFault e (IsFirstFault text.now)) }
     ensures only_topology { (topology : TopologyView) → Reads text.now topology → Gives topology result }
@@ -26,9 +27,8 @@ pub fn read_gml(alloc: Global, text: &[u8]) -> Result<Topology, Refusal<GmlFault
 {
     let tokens = match tokens(alloc, text) {
         Ok(tokens) => tokens,
-        Err(Refusal::NoMemory) => return Err(Refusal::NoMemory),
-        Err(Refusal::Fault(fault)) => {
-            return Err(Refusal::Fault(GmlFault::Lex { place: fault.place }));
+        Err(refusal) => {
+            return Err(refusal.map_fault(|fault| GmlFault::Lex { place: fault.place }));
         }
     };
     read_tokens(alloc, text, &tokens)
@@ -36,7 +36,7 @@ pub fn read_gml(alloc: Global, text: &[u8]) -> Result<Topology, Refusal<GmlFault
 
 /// The topology of a text with these tokens, or its first fault.
 fn read_tokens(alloc: Global, text: &[u8], tokens: &[Token]) -> Result<Topology, Refusal<GmlFault>>
-    requires few { length text.now ≤ 16777216 }
+    requires few { length text.now ≤ TOPOLOGY_BYTES_MAX }
     requires are { AreTokens text.now tokens.now }
     requires count { length tokens.now ≤ length text.now }
     requires spans { All (λ t. (t.start < t.end) × (t.end ≤ length text.now)) tokens.now }
@@ -54,7 +54,7 @@ fn read_tokens(alloc: Global, text: &[u8], tokens: &[Token]) -> Result<Topology,
 
 /// The fault with its place in the text.
 fn placed(misplaced: Misplaced, tokens: &[Token], text: &[u8]) -> GmlFault
-    requires few { length text.now ≤ 16777216 }
+    requires few { length text.now ≤ TOPOLOGY_BYTES_MAX }
     requires are { AreTokens text.now tokens.now }
     requires misplaced { IsMisplaced tokens.now misplaced }
     ensures { IsFirstFault text.now result }

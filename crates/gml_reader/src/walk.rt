@@ -6,7 +6,7 @@ use gml_lex::{Token, TokenKind};
 
 /// The value of a pair.
 #[derive(Clone, Copy)]
-pub(crate) enum Value<'t> {
+pub(crate) enum ValueTokens<'t> {
     /// One token.
     Leaf(Token),
     /// The tokens of a list, without its Left and Right.
@@ -17,7 +17,7 @@ pub(crate) enum Value<'t> {
 #[derive(Clone, Copy)]
 pub(crate) struct FirstPair<'t> {
     pub(crate) key: Token,
-    pub(crate) value: Value<'t>,
+    pub(crate) value: ValueTokens<'t>,
     pub(crate) rest: &'t [Token],
 }
 
@@ -40,7 +40,7 @@ impl<'t> FirstPair<'t> {
         let TokenKind::Left = value.kind else {
             return Some(FirstPair {
                 key,
-                value: Value::Leaf(value),
+                value: ValueTokens::Leaf(value),
                 rest: behind,
             });
         };
@@ -48,7 +48,7 @@ impl<'t> FirstPair<'t> {
         let (_, rest) = closed.split_first()?;
         Some(FirstPair {
             key,
-            value: Value::Inner(inner),
+            value: ValueTokens::Inner(inner),
             rest,
         })
     }

@@ -22,11 +22,6 @@ pub first_fault_later : {X F : Type 0} (fault : ℕ → X → Option F) (xs : Li
 first_fault_later fault xs i d whole within so_far here =
     so_far ∙ first_fault_more fault xs i d within ∙ ap (λ o. option_or o (first_fault fault (i + 1) (drop (i + 1) xs))) (sym here)
 
--- all items are looked at
-pub first_fault_end : {X F : Type 0} (fault : ℕ → X → Option F) (xs : List X) (i : ℕ) (whole : Option F) → length xs ≤ i
-    → whole ≡ first_fault fault i (drop i xs) → whole ≡ None
-first_fault_end fault xs i whole end so_far = so_far ∙ ap (first_fault fault i) (drop_all i xs end)
-
 -- neither of two
 pub none_of_or : {F : Type 0} (a b : Option F) → option_or a b ≡ None → (a ≡ None) × (b ≡ None)
 none_of_or None b e = (refl, e)

@@ -187,8 +187,3 @@ pub links_are_last : (find : ℕ → Option ℕ) (nodes : List Node) (specs : Li
 unfolding topo_fault_by
 links_are_last find nodes specs directed o are none here =
     topo_fault_is find nodes specs directed are.numbers ∙ rw (are.counts, are.ids, are.addresses, none) here
-
--- the links that were made are those of the nodes
-pub links_of_same : (find : ℕ → Option ℕ) (nodes : List Node) (specs : List EdgeSpec) (directed : Bool)
-    → ((id : ℕ) → find id ≡ node_with nodes id) → links_of directed find specs ≡ links_of directed (node_with nodes) specs
-links_of_same find nodes specs directed same = ap (λ g. links_of directed g specs) (fun_ext same)
