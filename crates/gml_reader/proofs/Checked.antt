@@ -30,7 +30,8 @@ joined : (tokens : List Token) (k : Token) (rest : List Token) → (tokens ++ k 
 joined tokens k rest = append_assoc tokens (k ∷ []) rest
 
 -- after a token the state is the one that the rules name
-pub IsState-push : (tokens : List Token) (w : Wanted) (d : ℕ) (k : Token) (p : Wanted × ℕ) → IsState tokens w d → after w d k.kind ≡ Some p → IsState (tokens ++ k ∷ []) p.0 p.1
+pub IsState-push : (tokens : List Token) (w : Wanted) (d : ℕ) (k : Token) (p : Wanted × ℕ) → IsState tokens w d
+    → after w d k.kind ≡ Some p → IsState (tokens ++ k ∷ []) p.0 p.1
 IsState-push tokens w d k p s e = record {
   to = λ rest file. step_to w d k p rest e (s.to (k ∷ rest) (subst IsFile (joined tokens k rest) file));
   from = λ rest ends. subst IsFile (sym (joined tokens k rest)) (s.from (k ∷ rest) (step_from w d k p rest e ends));
@@ -44,7 +45,8 @@ front_of tokens w d s =
     record { more = ended.0; file = file.file; list = file.list; spelled_is = file.spelled_is }
 
 -- with a token after which there is no state they begin none
-pub no_front : (tokens : List Token) (w : Wanted) (d : ℕ) (k : Token) → IsState tokens w d → after w d k.kind ≡ None → IsFront (tokens ++ k ∷ []) → ⊥
+pub no_front : (tokens : List Token) (w : Wanted) (d : ℕ) (k : Token) → IsState tokens w d → after w d k.kind ≡ None
+    → IsFront (tokens ++ k ∷ []) → ⊥
 no_front tokens w d k s e front =
     dead w d k front.more e (s.to (k ∷ front.more) (record {
       file = front.file;
@@ -119,7 +121,8 @@ pub record IsNext (tokens : List Token) (at : ℕ) (none : Token) (w : Wanted) (
   pub read : IsRead tokens at w d
   pub state : Some (v, n) ≡ after w d (get_or tokens at none).kind
 
-module _ {tokens : List Token} {at : ℕ} {none : Token} {w : Wanted} {d : ℕ} {v : Wanted} {n : ℕ} (next : IsNext tokens at none w d v n) where
+module _ {tokens : List Token} {at : ℕ} {none : Token} {w : Wanted} {d : ℕ} {v : Wanted} {n : ℕ}
+    (next : IsNext tokens at none w d v n) where
   -- that state is the one of the tokens with it
   state_more : IsState (take (at + 1) tokens) v n
   state_more =

@@ -1,6 +1,5 @@
 -- Where a list is closed, and the first pair of one.
-use Rattle.std.proofs.Common.{◌≡◌, ◌<◌, ◌+◌, ℕ, suc, List, ◌∷◌, ◌++◌, length, drop, get_or, refl, sym, ap, arith, Option, Some, None, append_assoc, length-append}
-use Rattle.std.proofs.lemmas.List.{drop_more, drop_all}
+use Rattle.std.proofs.Common.{◌≡◌, ◌+◌, ℕ, suc, List, ◌∷◌, ◌++◌, length, refl, ap, arith, Option, Some, append_assoc, length-append}
 use Rattle.gml_lex.specs.declared.kinds.TokenKind.{TokenKind}
 use Rattle.gml_lex.specs.declared.kinds.TokenKind.TheVariants as kind
 use Rattle.gml_lex.specs.declared.kinds.Token.{Token}
@@ -19,11 +18,13 @@ plain_step kind.Right d simple = absurd simple
 depth_of : (k kd : TokenKind) (d : ℕ) → k ≡ kd → depth_behind k d ≡ depth_behind kd d
 depth_of k kd d is = ap (λ x. depth_behind x d) is
 
+-- a token that doesn't close the list stands before its Right
 one_more : (o : Option ℕ) (e : ℕ) (later : ℕ → ℕ) → o ≡ Some e → closing_at o later ≡ 1 + later e
 one_more o e later is = ap (λ x. closing_at x later) is
 
 -- a list is passed as a whole
-pub closing-spelled : (len : ℕ) (t : Pairs) (d : ℕ) (rest : List Token) → IsListIn len t → closing (spelled t ++ rest) d ≡ length (spelled t) + closing rest d
+pub closing-spelled : (len : ℕ) (t : Pairs) (d : ℕ) (rest : List Token) → IsListIn len t
+    → closing (spelled t ++ rest) d ≡ length (spelled t) + closing rest d
 closing-spelled len done d rest l = omega arith
 closing-spelled len (plain key value more) d rest l =
     let later = closing-spelled len more d rest l.more in
@@ -32,7 +33,8 @@ closing-spelled len (plain key value more) d rest l =
     omega (arith, one, two, later)
 closing-spelled len (nested key left inner right more) d rest l =
     let close = right ∷ (spelled more ++ rest) in
-    let shape : (spelled inner ++ (right ∷ spelled more)) ++ rest ≡ spelled inner ++ close = append_assoc (spelled inner) (right ∷ spelled more) rest in
+    let shape : (spelled inner ++ (right ∷ spelled more)) ++ rest ≡ spelled inner ++ close =
+    append_assoc (spelled inner) (right ∷ spelled more) rest in
     let one = one_more _ d (closing (left ∷ ((spelled inner ++ (right ∷ spelled more)) ++ rest))) (depth_of key.kind kind.Key d l.is_key) in
     let two = one_more _ (suc d) (closing ((spelled inner ++ (right ∷ spelled more)) ++ rest)) (depth_of left.kind kind.Left d l.opens) in
     let three = ap (λ ts. closing ts (suc d)) shape in
@@ -42,7 +44,8 @@ closing-spelled len (nested key left inner right more) d rest l =
     omega (arith, one, two, three, four, five, six, length-append (spelled inner) (right ∷ spelled more))
 
 -- the Right of a list that begins here
-pub closing-inner : (len : ℕ) (inner : Pairs) (right : Token) (back : List Token) → IsListIn len inner → right.kind ≡ kind.Right → closing (spelled inner ++ (right ∷ back)) 0 ≡ length (spelled inner)
+pub closing-inner : (len : ℕ) (inner : Pairs) (right : Token) (back : List Token) → IsListIn len inner → right.kind ≡ kind.Right
+    → closing (spelled inner ++ (right ∷ back)) 0 ≡ length (spelled inner)
 closing-inner len inner right back l closes =
     let one = closing-spelled len inner 0 (right ∷ back) l in
     let two = ap (λ o. closing_at o (closing back)) (depth_of right.kind kind.Right 0 closes) in

@@ -1,11 +1,10 @@
 -- A search for a key, pair by pair.
-use Rattle.std.proofs.Common.{◌≡◌, ◌≤◌, ℕ, Bool, true, false, cond, List, ◌∷◌, length, refl, sym, ◌∙◌, ap, subst, Some, None}
-use Rattle.std.specs.Str.{bytes_eq}
+use Rattle.std.proofs.Common.{◌≡◌, ◌≤◌, ℕ, List, ◌∷◌, length, refl}
 use Rattle.gml_lex.specs.declared.kinds.Token.{Token}
 use Rattle.gml_reader.specs.declared.walk.FirstPair.{FirstPair}
 use Rattle.gml_reader.specs.Grammar.{Pairs, done, plain, nested, spelled}
-use Rattle.gml_reader.specs.Values.{leaf, list, PairTree, pair, pairs, bytes_of, is_named, value_at}
-use Rattle.gml_reader.specs.Walk.{IsListIn, IsValueOf, IsFound, IsPairOf}
+use Rattle.gml_reader.specs.Values.{leaf, list, PairTree, pair, pairs, value_at}
+use Rattle.gml_reader.specs.Walk.{IsListIn, IsValueOf, IsPairOf}
 use Rattle.gml_reader.specs.Reading.{graph_in}
 
 -- a list by its first pair and the others

@@ -29,7 +29,8 @@ inner_pair key inner rest = record { key = key; value = Inner inner; rest = rest
 -- what stands behind a Left: the inner list, then its Right and the other pairs
 pub record IsClosed (len : ℕ) (t : Pairs) (key : Token) (behind : List Token) (end : ℕ) : Type 0 where
   pub closed : 0 < length (drop end behind)
-  pub pair : (inner rest : Bor (List Token)) (right : Token) → inner.now ≡ take end behind → drop end behind ≡ right ∷ rest.now → IsPairOf len t (inner_pair key inner rest)
+  pub pair : (inner rest : Bor (List Token)) (right : Token) → inner.now ≡ take end behind → drop end behind ≡ right ∷ rest.now
+      → IsPairOf len t (inner_pair key inner rest)
 
 -- tokens whose second is a Left, what stands behind it, and where its list ends there
 pub record Opens (tokens : List Token) (none : Token) (behind : List Token) (end : ℕ) : Type 0 where

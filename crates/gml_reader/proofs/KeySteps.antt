@@ -1,5 +1,5 @@
 -- A key where a key or an end is wanted: a value is wanted after it.
-use Rattle.std.proofs.Common.{◌≡◌, ℕ, zero, suc, List, ◌∷◌, ◌++◌, refl, sym, ◌∙◌, ap, inl, inr, append_assoc}
+use Rattle.std.proofs.Common.{◌≡◌, ℕ, zero, suc, List, ◌∷◌, ◌++◌, sym, ◌∙◌, ap, inl, inr, append_assoc}
 use Rattle.gml_lex.specs.declared.kinds.TokenKind.TheVariants as kind
 use Rattle.gml_lex.specs.declared.kinds.Token.{Token}
 use Rattle.gml_reader.specs.Grammar.{Pairs, done, plain, nested, spelled, IsPlain, IsList}
@@ -43,7 +43,8 @@ key_of_list d (nested key left inner close more) k right rest back is list close
       rest_is =
           tail_is k key rest (left ∷ ((spelled inner ++ (close ∷ spelled more)) ++ (right ∷ back))) same ∙ ap (λ ts. left ∷ ts) joined;
       after =
-          inr (list.opens, ends_open (suc d) inner close later list.inner list.closes (ends_open d more right back list.more closes around));
+          inr
+          (list.opens, ends_open (suc d) inner close later list.inner list.closes (ends_open d more right back list.more closes around));
     }
 
 pub key_to : (d : ℕ) (k : Token) (rest : List Token) → k.kind ≡ kind.Key → EndsList d (k ∷ rest) → EndsValue d rest

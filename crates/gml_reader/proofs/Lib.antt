@@ -15,3 +15,4 @@ pub mod WholeTexts
 pub mod OneTree
 pub mod Misplacements
 pub mod OneAnswer
+pub mod EachText

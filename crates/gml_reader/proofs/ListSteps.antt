@@ -1,5 +1,5 @@
 -- A token where a key or an end is wanted: a key, or the Right of an open list, and no other.
-use Rattle.std.proofs.Common.{◌≡◌, ◌⊎◌, ℕ, zero, suc, List, ◌∷◌, ◌++◌, refl, sym, ◌∙◌, subst, inl, inr, Some, None}
+use Rattle.std.proofs.Common.{◌≡◌, ◌⊎◌, ℕ, zero, suc, List, ◌∷◌, ◌++◌, sym, ◌∙◌, subst, inl, inr, Some, None}
 use Rattle.std.proofs.lemmas.Option.{same_Some}
 use Rattle.gml_lex.specs.declared.kinds.TokenKind.{TokenKind}
 use Rattle.gml_lex.specs.declared.kinds.TokenKind.TheVariants as kind

@@ -1,5 +1,5 @@
 -- The nodes and edges so far, pair by pair.
-use Rattle.std.proofs.Common.{◌≡◌, ◌+◌, ℕ, Bool, true, false, cond, List, [], ◌∷◌, ◌++◌, length, refl, sym, ◌∙◌, ap, arith, Some, None, Err, map, filter, append_assoc, length-append}
+use Rattle.std.proofs.Common.{◌≡◌, ◌+◌, ℕ, Bool, true, false, cond, List, [], ◌∷◌, ◌++◌, length, refl, sym, ◌∙◌, ap, arith, None, Err, map, filter, append_assoc, length-append}
 use Rattle.std.specs.Option.{option_or}
 use Rattle.mn_base.specs.declared.refusal.Refusal.{Refusal}
 use Rattle.mn_base.specs.declared.refusal.Refusal.TheVariants.{NoMemory, Fault}
@@ -25,6 +25,7 @@ pub record Reached (text : List ℕ) (t : Pairs) (rest : List Token) (nodes : Li
   pub edges_are : edges ++ edges_in text (pairs left) ≡ edges_in text (pairs t)
 
 -- ---- what is kept of a list and read
+-- of one element as many are kept and read as pass
 count_kept : {X Y : Type 0} (keep : X → Bool) (read : X → Y) (x : X) → length (map read (filter keep (x ∷ []))) ≡ cond (keep x) 1 0
 count_kept keep read x = by_test (keep x)
   where
@@ -32,10 +33,13 @@ count_kept keep read x = by_test (keep x)
     by_test true = refl
     by_test false = refl
 
-kept-cons : {X Y : Type 0} (keep : X → Bool) (read : X → Y) (x : X) (xs : List X) → map read (filter keep (x ∷ xs)) ≡ map read (filter keep (x ∷ [])) ++ map read (filter keep xs)
+-- what is kept of a list is what is kept of its first element, and of the others
+kept-cons : {X Y : Type 0} (keep : X → Bool) (read : X → Y) (x : X) (xs : List X)
+    → map read (filter keep (x ∷ xs)) ≡ map read (filter keep (x ∷ [])) ++ map read (filter keep xs)
 kept-cons keep read x xs = by_test (keep x)
   where
-    by_test : (b : Bool) → map read (cond b (x ∷ filter keep xs) (filter keep xs)) ≡ map read (cond b (x ∷ []) []) ++ map read (filter keep xs)
+    by_test : (b : Bool)
+        → map read (cond b (x ∷ filter keep xs) (filter keep xs)) ≡ map read (cond b (x ∷ []) []) ++ map read (filter keep xs)
     by_test true = refl
     by_test false = refl
 
@@ -98,7 +102,8 @@ module _ {text : List ℕ} {t : Pairs} {p : FirstPair} {rest : List Token} {node
       edge_count : edges_with ≡ length more_edges
       edge_count = omega (arith, ap length read.2, length-append edges (edges_in text (q.head ∷ [])), count_edge text q.head)
 
-      counts : items_fault text nodes_with edges_with (pairs q.more) ≡ items_fault text (length more_nodes) (length more_edges) (pairs q.more)
+      counts : items_fault text nodes_with edges_with (pairs q.more)
+          ≡ items_fault text (length more_nodes) (length more_edges) (pairs q.more)
       counts =
           ap (λ n. items_fault text n edges_with (pairs q.more)) node_count
           ∙ ap (λ e. items_fault text (length more_nodes) e (pairs q.more)) edge_count

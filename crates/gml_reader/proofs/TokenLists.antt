@@ -1,5 +1,5 @@
 -- Equations of lists of tokens, taken apart, and tokens of two kinds.
-use Rattle.std.proofs.Common.{◌≡◌, List, [], ◌∷◌, sym, ◌∙◌, ap}
+use Rattle.std.proofs.Common.{◌≡◌, List, [], ◌∷◌, ◌∙◌, ap}
 use Rattle.gml_lex.specs.declared.kinds.TokenKind.{TokenKind}
 use Rattle.gml_lex.specs.declared.kinds.TokenKind.TheVariants as kind
 use Rattle.gml_lex.specs.declared.kinds.Token.{Token}

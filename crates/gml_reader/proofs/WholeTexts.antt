@@ -1,5 +1,5 @@
 -- From a file's tokens to what its text reads to.
-use Rattle.std.proofs.Common.{◌≡◌, ◌<◌, ◌≤◌, ◌+◌, ℕ, List, ◌∷◌, ◌++◌, length, refl, ◌∙◌, ap, subst, arith, Option, Some, None, Result, Ok, Err, IfOk, IfErr, length-append}
+use Rattle.std.proofs.Common.{◌≡◌, ◌+◌, ℕ, List, ◌∷◌, ◌++◌, length, refl, ◌∙◌, ap, subst, arith, Option, Some, None, Result, Ok, Err, IfOk, IfErr, length-append}
 use Rattle.std.proofs.lemmas.List.{get_or_append_left, get_or-append-add}
 use Rattle.std.proofs.lemmas.List.Elements.{All-head, All-tail}
 use Rattle.std.specs.Borrow.{Bor}
@@ -22,6 +22,7 @@ use Rattle.gml_reader.specs.Texts.{IsTextOf, Reads, IsFileFault, IsFirstFault}
 use Rattle.gml_lex.proofs.Lexed.{IsSpan}
 use Rattle.gml_reader.proofs.ReadFaults.{first_fault_of}
 
+-- the spans of a list hold in its front and its back
 in_front : (len : ℕ) (xs ys : List Token) → All (IsSpan len) (xs ++ ys) → All (IsSpan len) xs
 in_front len xs ys all k d within =
     subst (IsSpan len) (get_or_append_left xs ys d k within) (all k d (omega (arith, within, length-append xs ys)))
@@ -65,9 +66,11 @@ text_of text tokens are f shallow = record {
   shallow = shallow;
 }
 
+-- the file's keys and values end within the text
 pub list_in_text : (len : ℕ) (t : Pairs) (tokens : List Token) → IsList t → tokens ≡ spelled t → All (IsSpan len) tokens → IsListIn len t
 list_in_text len t tokens l same all = list_in_spans len t l (subst (All (IsSpan len)) same all)
 
+-- no graph was found: there is none
 no_graph : (len : ℕ) (o : Option Pairs) → IsGraph len o None → o ≡ None
 no_graph len None found = refl
 no_graph len (Some g) found = absurd found
@@ -84,10 +87,13 @@ graph_at len None s found = absurd found
 graph_at len (Some g) s found = record { graph = g; is = refl; list = found.0; tokens_are = found.1 }
 
 -- a file without a graph
-pub without_graph : (text : List ℕ) (file : Pairs) → IsTextOf text file → IsGraph (length text) (graph_in text (pairs file)) None → IsFileFault text fault.NoGraph
+pub without_graph : (text : List ℕ) (file : Pairs) → IsTextOf text file → IsGraph (length text) (graph_in text (pairs file)) None
+    → IsFileFault text fault.NoGraph
 without_graph text file tree found = (file, tree, ap (fault_in text) (no_graph (length text) (graph_in text (pairs file)) found))
 
-pub reads_of : (text : List ℕ) (file : Pairs) (tokens : List Token) (r : Result TopologyView (Refusal GmlFault)) → IsTextOf text file → (g : IsGraphAt (length text) (graph_in text (pairs file)) tokens) → IsGraphRead text (pairs g.graph) r → IfOk r (Reads text)
+-- what was read of the graph is what the text reads to
+pub reads_of : (text : List ℕ) (file : Pairs) (tokens : List Token) (r : Result TopologyView (Refusal GmlFault)) → IsTextOf text file
+    → (g : IsGraphAt (length text) (graph_in text (pairs file)) tokens) → IsGraphRead text (pairs g.graph) r → IfOk r (Reads text)
 reads_of text file tokens (Ok t) tree g read = record {
   file = file;
   is_text = tree;
@@ -98,7 +104,10 @@ reads_of text file tokens (Ok t) tree g read = record {
 }
 reads_of text file tokens (Err e) tree g read = tt
 
-pub fault_of : (text : List ℕ) (file : Pairs) (tokens : List Token) (r : Result TopologyView (Refusal GmlFault)) → IsTextOf text file → (g : IsGraphAt (length text) (graph_in text (pairs file)) tokens) → IsGraphRead text (pairs g.graph) r → IfErr r (λ e. IfFault e (IsFirstFault text))
+-- and its fault is the first of the text
+pub fault_of : (text : List ℕ) (file : Pairs) (tokens : List Token) (r : Result TopologyView (Refusal GmlFault)) → IsTextOf text file
+    → (g : IsGraphAt (length text) (graph_in text (pairs file)) tokens) → IsGraphRead text (pairs g.graph) r
+    → IfErr r (λ e. IfFault e (IsFirstFault text))
 fault_of text file tokens (Ok t) tree g read = tt
 fault_of text file tokens (Err refusal.NoMemory) tree g read = tt
 fault_of text file tokens (Err (refusal.Fault f)) tree g read = first_fault_of text file f tree (ap (fault_in text) g.is ∙ read)

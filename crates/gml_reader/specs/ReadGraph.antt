@@ -30,9 +30,11 @@ abbrev pub IsPair : ℕ → PairTree → FirstPair → Type 0
 IsPair len p first = (first.key ≡ p.key) × (p.key.end ≤ len) × IsValueOf len p.value first.value
 
 -- one pair more was read of a graph, behind these nodes and edges
-abbrev pub IsItem : List ℕ → List Node → List EdgeSpec → PairTree → List Node → List EdgeSpec → Result (Unit {0}) (Refusal GmlFault) → Type 0
+abbrev pub IsItem : List ℕ → List Node → List EdgeSpec → PairTree → List Node → List EdgeSpec → Result (Unit {0}) (Refusal GmlFault)
+    → Type 0
 IsItem text nodes edges p more_nodes more_edges (Ok u) =
-    (item_fault text (length nodes) (length edges) p ≡ None) × (more_nodes ≡ nodes ++ nodes_in text (p ∷ [])) × (more_edges ≡ edges ++ edges_in text (p ∷ []))
+    (item_fault text (length nodes) (length edges) p ≡ None) × (more_nodes ≡ nodes ++ nodes_in text (p ∷ [])) ×
+    (more_edges ≡ edges ++ edges_in text (p ∷ []))
 IsItem text nodes edges p more_nodes more_edges (Err refusal.NoMemory) = Unit {0}
 IsItem text nodes edges p more_nodes more_edges (Err (refusal.Fault f)) = item_fault text (length nodes) (length edges) p ≡ Some f
 

@@ -144,8 +144,9 @@ fn kind(item: Item, key: Key) -> GmlFault {
 
 #[test]
 fn faults_of_tokens_and_grammar(rt: HostRuntime) {
-    laws::reads_or_fault();
-    laws::one_topology();
+    laws::each_text_is_answered();
+    laws::never_both();
+    laws::one_reading();
     laws::one_fault();
     for (text, fault) in [
         ("graph [ ? ]", GmlFault::Lex { place: 8 }),

@@ -9,7 +9,8 @@ abbrev pub invariant-loop-pair : goal.invariant-loop-pair
 invariant-loop-pair l = record {
   few_nodes : length l.items.nodes.items + length l.rest ≤ TOPOLOGY_BYTES_MAX;
   few_edges : length l.items.edges.items + length l.rest ≤ TOPOLOGY_BYTES_MAX;
-  reached : (t : Pairs) → IsListIn (length l.text) t → l.graph ≡ spelled t → Reached l.text t l.rest l.items.nodes.items l.items.edges.items;
+  reached : (t : Pairs) → IsListIn (length l.text) t → l.graph ≡ spelled t
+      → Reached l.text t l.rest l.items.nodes.items l.items.edges.items;
 }
 
 abbrev pub decreases-loop-pair : goal.decreases-loop-pair

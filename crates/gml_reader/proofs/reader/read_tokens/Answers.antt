@@ -1,5 +1,4 @@
 use Rattle.std.proofs.Common.{length, arith}
-use Rattle.gml_reader.specs.Texts.{IsTextOf}
 use Rattle.gml_reader.proofs.WholeTexts.{text_of, list_in_text, graph_at, without_graph, reads_of, fault_of}
 use Rattle.gml_reader.proofs.reader.read_tokens.Goals as goal
 
