@@ -77,8 +77,9 @@ Lexed-push {text} {rest} {tokens} more p start l here at_is pushed =
           subst (All (IsSpan (length text))) (sym pushed)
           (All-append (IsSpan (length text)) tokens (token_of start p) l.spans (spans_of (length text) start p fits.least within));
       few =
-          omega
-          (arith, ap length pushed, length-append tokens (token_of start p), one_token start (start + p.len) p.kind, length-drop p.len rest, fits.least, fits.most, l.few);
+          let longer = length-append tokens (token_of start p) in
+          let one = one_token start (start + p.len) p.kind in
+          omega (arith, ap length pushed, longer, one, length-drop p.len rest, fits.least, fits.most, l.few);
     }
 
 empty_by_test : (bytes : List ℕ) → (length bytes == 0) ≡ true → bytes ≡ []

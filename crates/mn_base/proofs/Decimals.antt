@@ -21,20 +21,20 @@ front_is_least value [] (suc i) = omega arith
 front_is_least value (b ∷ text) zero = value_grows value (b ∷ text)
 front_is_least value (b ∷ text) (suc i) = front_is_least (with_digit value b) text i
 
+-- another text has no value
 pub not_decimal : (text : List ℕ) → is_decimal text ≡ false → None ≡ decimal_of text
 not_decimal text no_decimal = rw no_decimal refl
-
-pub and_false : (a b c : Bool) → b ≡ false → ((a && b) && c) ≡ false
-and_false a b c e = grind (arith, e)
 
 pub ends_false : (a b : Bool) → b ≡ false → (a && b) ≡ false
 ends_false a b e = grind (arith, e)
 
+-- digits, one at least, of a value below 2^64
 pub is_decimal_of : (text : List ℕ) → 0 < length text → list_all is_digit text ≡ true → number_of text < 2 ^ 64 → is_decimal text ≡ true
 is_decimal_of text some digits small = rw (lt-ltb 0 (length text) some, digits, lt-ltb (number_of text) (2 ^ 64) small) refl
 
 -- all of it was read
-pub whole_value : (text : List ℕ) (i value : ℕ) → length text ≤ i → 0 < length text → list_all is_digit (take i text) ≡ true → value ≡ number_of (take i text) → value < 2 ^ 64 → Some value ≡ decimal_of text
+pub whole_value : (text : List ℕ) (i value : ℕ) → length text ≤ i → 0 < length text → list_all is_digit (take i text) ≡ true
+    → value ≡ number_of (take i text) → value < 2 ^ 64 → Some value ≡ decimal_of text
 whole_value text i value end some digits same small =
     let whole : take i text ≡ text = take_all i text end in
     let all_digits : list_all is_digit text ≡ true = rw (← whole) digits in
@@ -47,12 +47,17 @@ too_great text i great =
     let beyond : 2 ^ 64 ≤ number_of text = omega (arith, front_is_least 0 text i, great) in
     not_decimal text (ends_false (nat_lt 0 (length text) && list_all is_digit text) _ (le-ltb (number_of text) (2 ^ 64) beyond))
 
-pub beyond_u64 : (text : List ℕ) (i value b : ℕ) → i < length text → value ≡ number_of (take i text) → b ≡ get_or text i 0 → (with_digit value b < 2 ^ 64 → ⊥) → None ≡ decimal_of text
+-- a digit that makes the value 2^64 or more
+pub beyond_u64 : (text : List ℕ) (i value b : ℕ) → i < length text → value ≡ number_of (take i text) → b ≡ get_or text i 0
+    → (with_digit value b < 2 ^ 64 → ⊥) → None ≡ decimal_of text
 beyond_u64 text i value b within same read over =
-    let longer : number_of (take (i + 1) text) ≡ with_digit (number_of (take i text)) (get_or text i 0) = fold_more with_digit 0 text i 0 within in
+    let longer : number_of (take (i + 1) text) ≡ with_digit (number_of (take i text)) (get_or text i 0) =
+    fold_more with_digit 0 text i 0 within in
     too_great text (i + 1) (rw longer (rw (← same) (rw (← read) (omega (arith, over)))))
 
-pub one_more : (text : List ℕ) (i value b : ℕ) → i < length text → value ≡ number_of (take i text) → b ≡ get_or text i 0 → with_digit value b ≡ number_of (take (i + 1) text)
+-- a digit more was read
+pub one_more : (text : List ℕ) (i value b : ℕ) → i < length text → value ≡ number_of (take i text) → b ≡ get_or text i 0
+    → with_digit value b ≡ number_of (take (i + 1) text)
 one_more text i value b within same read = sym (fold_more with_digit 0 text i 0 within ∙ cc)
 
 -- ---- a printed number

@@ -57,7 +57,8 @@ pub Among-from-filter : {X : Type 0} (p : X → Bool) (x : X) (xs : List X) → 
 Among-from-filter p x [] there = absurd there
 Among-from-filter {X} p x (z ∷ xs) there = split (p z) refl (λ later. Among-from-filter p x xs later) there
   where
-    split : (b : Bool) → p z ≡ b → (Among x (filter p xs) → Among x xs × (p x ≡ true)) → Among x (cond b (z ∷ filter p xs) (filter p xs)) → Among x (z ∷ xs) × (p x ≡ true)
+    split : (b : Bool) → p z ≡ b → (Among x (filter p xs) → Among x xs × (p x ≡ true)) → Among x (cond b (z ∷ filter p xs) (filter p xs))
+        → Among x (z ∷ xs) × (p x ≡ true)
     split true passes rest there =
         elim there [
           | inl here ↦ (inl here, ap p (sym here) ∙ passes)
@@ -76,21 +77,25 @@ Among-reverse x [] h = absurd h
 Among-reverse x (y ∷ xs) h =
     ⊎_elim (λ l. inr (Among-reverse x xs l)) (λ e. inl e) (Among-push x (reverse xs) y (subst (Among x) (reverse-append (y ∷ []) xs) h))
 
-pub Among-filter_map : {X Y : Type 0} (f : X → Option Y) (x : X) (y : Y) (xs : List X) → Among x xs → f x ≡ Some y → Among y (filter_map f xs)
+pub Among-filter_map : {X Y : Type 0} (f : X → Option Y) (x : X) (y : Y) (xs : List X) → Among x xs → f x ≡ Some y
+    → Among y (filter_map f xs)
 Among-filter_map f x y [] h e = absurd h
 Among-filter_map f x y (z ∷ xs) h e = go (f z) refl h (λ l. Among-filter_map f x y xs l e)
   where
-    go : (o : Option _) → f z ≡ o → (z ≡ x) ⊎ Among x xs → (Among x xs → Among y (filter_map f xs)) → Among y (cons_option o (filter_map f xs))
+    go : (o : Option _) → f z ≡ o → (z ≡ x) ⊎ Among x xs → (Among x xs → Among y (filter_map f xs))
+        → Among y (cons_option o (filter_map f xs))
     go None t (inl same) rest = let n : None ≡ Some y = sym t ∙ ap f same ∙ e in cc
     go None t (inr later) rest = rest later
     go (Some w) t (inl same) rest = let n : Some w ≡ Some y = sym t ∙ ap f same ∙ e in inl cc
     go (Some w) t (inr later) rest = inr (rest later)
 
-pub Among-from-filter_map : {X Y : Type 0} (f : X → Option Y) (y : Y) (xs : List X) → Among y (filter_map f xs) → (x : X) × Among x xs × (f x ≡ Some y)
+pub Among-from-filter_map : {X Y : Type 0} (f : X → Option Y) (y : Y) (xs : List X) → Among y (filter_map f xs)
+    → (x : X) × Among x xs × (f x ≡ Some y)
 Among-from-filter_map f y [] h = absurd h
 Among-from-filter_map f y (z ∷ xs) h = go (f z) refl h (Among-from-filter_map f y xs)
   where
-    go : (o : Option _) → f z ≡ o → Among y (cons_option o (filter_map f xs)) → (Among y (filter_map f xs) → (x : _) × Among x xs × (f x ≡ Some y)) → (x : _) × ((z ≡ x) ⊎ Among x xs) × (f x ≡ Some y)
+    go : (o : Option _) → f z ≡ o → Among y (cons_option o (filter_map f xs))
+        → (Among y (filter_map f xs) → (x : _) × Among x xs × (f x ≡ Some y)) → (x : _) × ((z ≡ x) ⊎ Among x xs) × (f x ≡ Some y)
     go None t later rest = let s = rest later in (s.0, inr s.1, s.2)
     go (Some w) t (inl same) rest = (z, inl refl, t ∙ ap Some same)
     go (Some w) t (inr later) rest = let s = rest later in (s.0, inr s.1, s.2)
@@ -100,7 +105,8 @@ pub Among-find : {X : Type 0} (p : X → Bool) (x : X) (xs : List X) → find p 
 Among-find p x [] e = cc
 Among-find p x (y ∷ xs) e = go (p y) refl e (Among-find p x xs)
   where
-    go : (b : Bool) → p y ≡ b → cond b (Some y) (find p xs) ≡ Some x → (find p xs ≡ Some x → Among x xs × (p x ≡ true)) → ((y ≡ x) ⊎ Among x xs) × (p x ≡ true)
+    go : (b : Bool) → p y ≡ b → cond b (Some y) (find p xs) ≡ Some x → (find p xs ≡ Some x → Among x xs × (p x ≡ true))
+        → ((y ≡ x) ⊎ Among x xs) × (p x ≡ true)
     go true t f rest = let same : y ≡ x = cc in (inl same, ap p (sym same) ∙ t)
     go false t f rest = let s = rest f in (inr s.0, s.1)
 
@@ -109,7 +115,8 @@ pub find-some : {X : Type 0} (p : X → Bool) (x : X) (xs : List X) → Among x 
 find-some p x [] h e = absurd h
 find-some p x (z ∷ xs) h e = go (p z) refl h (λ l. find-some p x xs l e)
   where
-    go : (b : Bool) → p z ≡ b → (z ≡ x) ⊎ Among x xs → (Among x xs → (y : _) × (find p xs ≡ Some y)) → (y : _) × (cond b (Some z) (find p xs) ≡ Some y)
+    go : (b : Bool) → p z ≡ b → (z ≡ x) ⊎ Among x xs → (Among x xs → (y : _) × (find p xs ≡ Some y))
+        → (y : _) × (cond b (Some z) (find p xs) ≡ Some y)
     go true t m rest = (z, refl)
     go false t (inl same) rest = absurd (true≢false (sym e ∙ ap p (sym same) ∙ t))
     go false t (inr later) rest = rest later
@@ -121,7 +128,8 @@ find-none p (x ∷ xs) none =
     ap (λ (b : Bool). cond b (Some x) (find p xs)) (none x (inl refl)) ∙ find-none p xs (λ y h. none y (inr h))
 
 -- the first that passes, where none in front of it does
-pub find-behind : {X : Type 0} (p : X → Bool) (xs : List X) (x : X) (ys : List X) → ((y : X) → Among y xs → p y ≡ false) → p x ≡ true → find p (xs ++ x ∷ ys) ≡ Some x
+pub find-behind : {X : Type 0} (p : X → Bool) (xs : List X) (x : X) (ys : List X) → ((y : X) → Among y xs → p y ≡ false) → p x ≡ true
+    → find p (xs ++ x ∷ ys) ≡ Some x
 find-behind p [] x ys none e = ap (λ (b : Bool). cond b (Some x) (find p ys)) e
 find-behind p (z ∷ xs) x ys none e =
     ap (λ (b : Bool). cond b (Some z) (find p (xs ++ x ∷ ys))) (none z (inl refl)) ∙ find-behind p xs x ys (λ y h. none y (inr h)) e
@@ -145,7 +153,8 @@ pub Among-from-list_any : {X : Type 0} (p : X → Bool) (xs : List X) → list_a
 Among-from-list_any p [] e = absurd (true≢false (sym e))
 Among-from-list_any p (y ∷ xs) e = go (p y) refl e (Among-from-list_any p xs)
   where
-    go : (b : Bool) → p y ≡ b → (b || list_any p xs) ≡ true → (list_any p xs ≡ true → (x : _) × Among x xs × (p x ≡ true)) → (x : _) × ((y ≡ x) ⊎ Among x xs) × (p x ≡ true)
+    go : (b : Bool) → p y ≡ b → (b || list_any p xs) ≡ true → (list_any p xs ≡ true → (x : _) × Among x xs × (p x ≡ true))
+        → (x : _) × ((y ≡ x) ⊎ Among x xs) × (p x ≡ true)
     go true t f rest = (y, inl refl, t)
     go false t f rest = let s = rest f in (s.0, inr s.1, s.2)
 
@@ -196,7 +205,8 @@ pub All-Among : {X : Type 0} (P : X → Type 0) (x : X) (xs : List X) → All P 
 All-Among P x xs all h = let s = place_of x xs h in subst P (s.here x) (all s.place x s.within)
 
 -- of two members one is the other, or they stand in one order or the other
-pub AllPairs-Among : {X : Type 0} (R : X → X → Type 0) (x y : X) (xs : List X) → AllPairs R xs → Among x xs → Among y xs → (x ≡ y) ⊎ (R x y ⊎ R y x)
+pub AllPairs-Among : {X : Type 0} (R : X → X → Type 0) (x y : X) (xs : List X) → AllPairs R xs → Among x xs → Among y xs
+    → (x ≡ y) ⊎ (R x y ⊎ R y x)
 AllPairs-Among {X} R x y xs all h k = go (cases_order s.place t.place)
   where
     s : PlaceOf x xs
@@ -207,5 +217,9 @@ AllPairs-Among {X} R x y xs all h k = go (cases_order s.place t.place)
 
     go : (s.place ≡ t.place) ⊎ ((s.place < t.place) ⊎ (t.place < s.place)) → (x ≡ y) ⊎ (R x y ⊎ R y x)
     go (inl same) = inl (sym (s.here x) ∙ ap (λ i. slice_index_or xs i x) same ∙ t.here x)
-    go (inr (inl before)) = inr (inl (subst (λ (z : X). R z y) (s.here x) (subst (λ (z : X). R (slice_index_or xs s.place x) z) (t.here x) (all s.place t.place x before t.within))))
-    go (inr (inr after)) = inr (inr (subst (λ (z : X). R z x) (t.here x) (subst (λ (z : X). R (slice_index_or xs t.place x) z) (s.here x) (all t.place s.place x after s.within))))
+    go (inr (inl before)) =
+        let at_y = subst (λ (z : X). R (slice_index_or xs s.place x) z) (t.here x) (all s.place t.place x before t.within) in
+        inr (inl (subst (λ (z : X). R z y) (s.here x) at_y))
+    go (inr (inr after)) =
+        let at_x = subst (λ (z : X). R (slice_index_or xs t.place x) z) (s.here x) (all t.place s.place x after s.within) in
+        inr (inr (subst (λ (z : X). R z x) (t.here x) at_x))
