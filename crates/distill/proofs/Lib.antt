@@ -1,0 +1,11 @@
+pub mod Distinct
+pub mod LatencyFrontiers
+pub mod LatencyModes
+pub mod LatencyParts
+pub mod LatencyWalks
+pub mod LinkLists
+pub mod MeshPairs
+pub mod MeshRows
+pub mod Narrowest
+pub mod PartsSound
+pub mod SortedMesh
