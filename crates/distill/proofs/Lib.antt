@@ -4,6 +4,7 @@ pub mod LatencyModes
 pub mod LatencyParts
 pub mod LatencyWalks
 pub mod LinkLists
+pub mod MadePipes
 pub mod MeshPairs
 pub mod MeshRows
 pub mod Narrowest

@@ -3,16 +3,17 @@ use Rattle.std.proofs.Common.{◌≡◌, ℕ, zero, suc, ◌+◌, ◌<◌, ◌�
 use Rattle.std.specs.List.{range_with_len}
 use Rattle.std.proofs.lemmas.List.FromFn.{length-range_with_len, get_or-range_with_len}
 use Rattle.mn_base.specs.Among.{Among}
-use Rattle.mn_base.specs.declared.limits.TheConstants.{NODES_MAX}
+use Rattle.mn_base.specs.declared.limits.TheConstants.{NODES_MAX, FRONTIERS_MAX}
 use Rattle.mn_base.proofs.Members.{Among-from-filter, PlaceOf, place_of}
 use Rattle.topo.specs.declared.parts.Link.{Link}
 use Rattle.topo.specs.TopologyView.{TopologyView}
 use Rattle.topo.specs.Nodes.{edge_nodes_of}
+use Rattle.frontier.specs.NodeSets.{is_in_one}
 use Rattle.frontier.specs.Frontiers.{frontier_after, frontiers_of}
 use Rattle.frontier.proofs.Numbers.{filter-range-below}
 use Rattle.frontier.proofs.Layers.{length-frontiers_of}
 use Rattle.walk_out.specs.Parts.{link_at, is_outer_link, parts_around}
-use Rattle.walk_out.specs.WalkOut.{hop_parts, walk_parts, walk_out_parts, walk_out_border}
+use Rattle.walk_out.specs.WalkOut.{hop_parts, walk_parts, walk_out_parts, walk_out_border, is_outer}
 use Rattle.distill.specs.declared.modes.Mode.{Mode}
 use Rattle.distill.specs.declared.modes.Mode.TheVariants.{Hop, Walk, End, WalkOut}
 use Rattle.distill.specs.Modes.{parts_of}
@@ -91,6 +92,6 @@ sound_around t outer border few chosen_border =
 
 pub parts_are_sound : (t : TopologyView) (mode : Mode) → length t.nodes ≤ NODES_MAX → AreSound t (parts_of t mode)
 parts_are_sound t Hop few = sound_around t (λ v. true) [] few (none_chosen (length t.nodes))
-parts_are_sound t (Walk w) few = sound_around t _ _ few (frontier_is_chosen t w w)
-parts_are_sound t End few = sound_around t _ _ few (frontier_is_chosen t 0 0)
-parts_are_sound t (WalkOut w o) few = sound_around t _ _ few (chosen _ (length t.nodes))
+parts_are_sound t (Walk w) few = sound_around t (λ v. is_in_one v (take w (frontiers_of t w))) _ few (frontier_is_chosen t w w)
+parts_are_sound t End few = sound_around t (λ v. is_in_one v (take 0 (frontiers_of t 0))) _ few (frontier_is_chosen t 0 0)
+parts_are_sound t (WalkOut w o) few = sound_around t (is_outer (frontiers_of t FRONTIERS_MAX) w o) _ few (chosen _ (length t.nodes))

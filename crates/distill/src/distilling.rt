@@ -41,11 +41,12 @@ pub fn distill(
     ensures too_many { IfErr result (λ e. IfFault e
         (λ f. HasPipeCount topology.now mode f.count × (PIPES_MAX < f.count))) }
 {
+    let nodes = topology.nodes().len() as u32;
     let parts = parts_of(alloc, topology, mode)?;
     let pipes = pipes_of(alloc, topology, &parts, tick_ns)?;
     let edge_nodes = edge_nodes(alloc, topology)?;
     Ok(Distilled {
-        nodes: topology.nodes().len() as u32,
+        nodes,
         edge_nodes,
         pipes,
     })

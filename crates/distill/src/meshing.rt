@@ -1,4 +1,4 @@
-ghost use Rattle.std.specs.Prelude.{◌≡◌, ◌<◌, ◌≤◌, ◌↔◌, ◌++◌, length, All, IsTrue, IfOk, OnOk, if◌then◌else◌};
+ghost use Rattle.std.specs.Prelude.{◌≡◌, ◌<◌, ◌≤◌, ◌↔◌, ◌++◌, ◌*◌, length, All, IsTrue, IfOk, OnOk, if◌then◌else◌};
 ghost use Rattle.std.specs.Option.{option_to_list};
 ghost use Rattle.mn_base.specs.declared.limits.TheConstants.{NODES_MAX};
 ghost use Rattle.mn_base.specs.Ranges.{AreInRange, IsTickLength};
@@ -23,7 +23,8 @@ pub(crate) fn count_pairs(
     requires below { All (λ v. v < incoming.now.nodes) border.now }
     requires distinct { AreDistinct border.now }
     requires few { length border.now ≤ NODES_MAX }
-    ensures { IfOk result (HasPairCount incoming.now.arcs border.now) }
+    ensures counted { IfOk result (HasPairCount incoming.now.arcs border.now) }
+    ensures few { IfOk result (λ count. count ≤ length border.now * NODES_MAX) }
 {
     let mut count = 0;
     for target in border {
