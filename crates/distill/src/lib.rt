@@ -17,3 +17,6 @@ pub use distilled::Distilled;
 pub use distilling::distill;
 pub use modes::Mode;
 pub use pipes::{DistilledPipe, TooManyPipes};
+
+#[cfg(test)]
+mod tests;

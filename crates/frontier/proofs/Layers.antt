@@ -1,5 +1,5 @@
 -- The frontiers one by one: how many there are, that they have nodes alone, and the step from some of them to one more.
-use Rattle.std.proofs.Common.{◌≡◌, ℕ, zero, suc, ◌+◌, ◌<◌, ◌≤◌, ◌==◌, ◌&&◌, ◌||◌, Vec, Global, Bool, true, false, not, List, [], ◌∷◌, ◌++◌, length, get_or, filter, map, All, refl, sym, ◌∙◌, ap, subst, arith, add-one, length-append}
+use Rattle.std.proofs.Common.{◌≡◌, ℕ, zero, suc, ◌+◌, ◌<◌, ◌==◌, ◌&&◌, ◌||◌, Vec, Global, Bool, true, false, not, List, [], ◌∷◌, ◌++◌, length, get_or, filter, map, All, refl, sym, ◌∙◌, ap, arith, add-one, length-append}
 use Rattle.std.specs.List.{range_with_len}
 use Rattle.std.proofs.lemmas.List.{get_or-map, map-append}
 use Rattle.std.proofs.lemmas.List.Folds.{list_any-append}

@@ -1,5 +1,5 @@
 -- Frontiers: the edge nodes, then step by step the nodes that links join to the frontier before.
-use Rattle.std.specs.Prelude.{ℕ, zero, suc, Bool, not, ◌&&◌, List, [], ◌∷◌, ◌++◌, length, filter, slice_index_or}
+use Rattle.std.specs.Prelude.{ℕ, zero, suc, not, ◌&&◌, List, [], ◌∷◌, ◌++◌, length, filter, slice_index_or}
 use Rattle.std.specs.List.{range_with_len}
 use Rattle.topo.specs.Nodes.{edge_nodes_of}
 use Rattle.topo.specs.TopologyView.{TopologyView}

@@ -9,3 +9,6 @@ mod steps;
 
 pub use node_sets::{NodeSet, push_if};
 pub use steps::{edge_nodes, frontiers};
+
+#[cfg(test)]
+mod tests;

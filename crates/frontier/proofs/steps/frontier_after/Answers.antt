@@ -1,5 +1,4 @@
-use Rattle.std.proofs.Common.{◌≡◌, ◌≤◌, ◌&&◌, not, ◌||◌, ◌<◌, ℕ, All, length, ap, rules, arith, sym, ◌∙◌, filter}
-use Rattle.std.specs.List.{range_with_len}
+use Rattle.std.proofs.Common.{◌≡◌, ◌≤◌, ◌&&◌, not, ◌||◌, ℕ, length, ap, rules, arith, sym, ◌∙◌}
 use Rattle.std.proofs.lemmas.Result.{IfOk-weaker}
 use Rattle.frontier.specs.NodeSets.{has, is_in, is_beside}
 use Rattle.frontier.proofs.Layers.{none_after_empty, next-is, is_beside-same}

@@ -1,8 +1,7 @@
-use Rattle.std.proofs.Common.{◌≡◌, ◌<◌, ◌++◌, ◌∷◌, [], ◌||◌, ℕ, List, Vec, Global, length, map, All, sym, ap, subst, ◌∙◌, arith, slice_index_or}
+use Rattle.std.proofs.Common.{◌≡◌, ◌<◌, ◌++◌, ◌∷◌, [], ◌||◌, ℕ, List, Vec, Global, length, All, sym, ap, subst, ◌∙◌, arith}
 use Rattle.std.proofs.lemmas.List.{length-map}
 use Rattle.std.proofs.lemmas.List.Elements.{All-get_or}
 use Rattle.frontier.specs.NodeSets.{has, is_in}
-use Rattle.frontier.specs.Frontiers.{frontiers_of}
 use Rattle.frontier.proofs.Layers.{frontier_after-is, reached-more, length-frontiers_of, last-is, items-push, first-is, first-reached, All-push}
 use Rattle.frontier.proofs.steps.frontiers.Goals as goal
 
