@@ -69,10 +69,10 @@ count_next arcs border i d count more distinct within c s =
       pairs = c.pairs ++ pairs_to b s.found;
       are = subst (λ (ts : List ℕ). ArePairsInto arcs border ts (c.pairs ++ pairs_to b s.found)) (sym (take_more border i d within)) grown;
       count_is =
-        let had : count ≡ length c.pairs = c.count_is in
-        let found : more ≡ length s.found = s.count_is in
-        let paired : length (pairs_to b s.found) ≡ length s.found = length-map s.found (λ a. (a, b)) in
-        omega (arith, length-append c.pairs (pairs_to b s.found));
+          let had : count ≡ length c.pairs = c.count_is in
+          let found : more ≡ length s.found = s.count_is in
+          let paired : length (pairs_to b s.found) ≡ length s.found = length-map s.found (λ a. (a, b)) in
+          omega (arith, length-append c.pairs (pairs_to b s.found));
     }
 
 pub whole_count : (arcs : List Arc) (border : List ℕ) (i count : ℕ) → length border ≤ i → HasCountInto arcs border (take i border) count → HasPairCount arcs border count

@@ -64,10 +64,10 @@ differ_by_length {X} xs ys i j d distinct len all lt within same =
     let front_len : length (take j ys) ≡ j = length-take-le j ys (omega arith) in
     let in_front : Among (get_or ys j d) (take j ys) = subst (λ (z : X). Among z (take j ys)) (get_or-take j ys i d lt ∙ same) (Among-place (take j ys) i d (omega arith)) in
     let still : (x : X) → Among x xs → Among x (take j ys ++ drop (j + 1) ys) = λ x there.
-        ⊎_elim
-        (λ front. Among-append-left x (take j ys) (drop (j + 1) ys) front)
-        (λ behind. ⊎_elim (λ (here : get_or ys j d ≡ x). Among-append-left x (take j ys) (drop (j + 1) ys) (subst (λ (z : X). Among z (take j ys)) here in_front)) (λ later. Among-append-right x (take j ys) (drop (j + 1) ys) later) behind)
-        (Among-append x (take j ys) (get_or ys j d ∷ drop (j + 1) ys) (subst (Among x) parted (all x there))) in
+    ⊎_elim
+    (λ front. Among-append-left x (take j ys) (drop (j + 1) ys) front)
+    (λ behind. ⊎_elim (λ (here : get_or ys j d ≡ x). Among-append-left x (take j ys) (drop (j + 1) ys) (subst (λ (z : X). Among z (take j ys)) here in_front)) (λ later. Among-append-right x (take j ys) (drop (j + 1) ys) later) behind)
+    (Among-append x (take j ys) (get_or ys j d ∷ drop (j + 1) ys) (subst (Among x) parted (all x there))) in
     let fewer = distinct_are_no_more xs (take j ys ++ drop (j + 1) ys) distinct still in
     omega (arith, fewer, ap length parted, length-append (take j ys) (get_or ys j d ∷ drop (j + 1) ys), length-append (take j ys) (drop (j + 1) ys))
 

@@ -36,5 +36,9 @@ pub(crate) fn pipe_along(links: &[Link], from: u32, to: u32, tick_ns: u64) -> Di
 fn narrower(first: Link, second: Link) -> Link
     ensures { result ≡ narrower first second }
 {
-    if second.bps < first.bps { second } else { first }
+    if second.bps < first.bps {
+        second
+    } else {
+        first
+    }
 }

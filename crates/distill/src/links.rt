@@ -14,7 +14,11 @@ use std::alloc::Global;
 use topo::Link;
 
 /// The links of these numbers.
-pub(crate) fn links_at(alloc: Global, links: &[Link], numbers: &[u32]) -> Result<Vec<Link>, NoMemory>
+pub(crate) fn links_at(
+    alloc: Global,
+    links: &[Link],
+    numbers: &[u32],
+) -> Result<Vec<Link>, NoMemory>
     requires { All (λ e. e < length links.now) numbers.now }
     ensures { IfOk result (λ v. v.items ≡ links_at links.now numbers.now) }
 {

@@ -91,7 +91,10 @@ fn a_walk_collapses_to_one_pipe(rt: HostRuntime) -> Result<(), Fail> {
     };
     assert_eq!(rt; (there.from, there.to, there.links), (0, 3, 3));
     assert_eq!(rt; (there.params.bps, there.params.queue), (2_000_000, 5));
-    assert_eq!(rt; (there.params.latency_us, there.params.latency_ticks), (6_000, 60));
+    assert_eq!(rt;
+        (there.params.latency_us, there.params.latency_ticks),
+        (6_000, 60)
+    );
     assert_eq!(rt; there.params.keep, 1_073_741_824);
     assert_eq!(rt; (back.from, back.to, back.params.queue), (3, 0, 9));
     Ok(())
@@ -116,12 +119,18 @@ fn latency_is_rounded_after_the_sum(rt: HostRuntime) -> Result<(), Fail> {
     let hop = distill(rt.alloc(), &topology, Mode::Hop, 100_000)?;
     assert_eq!(rt; hop.pipes().len(), 4);
     for pipe in hop.pipes() {
-        assert_eq!(rt; (pipe.params.latency_us, pipe.params.latency_ticks), (50, 1));
+        assert_eq!(rt;
+            (pipe.params.latency_us, pipe.params.latency_ticks),
+            (50, 1)
+        );
     }
     let end = distill(rt.alloc(), &topology, Mode::End, 100_000)?;
     assert_eq!(rt; end.pipes().len(), 2);
     for pipe in end.pipes() {
-        assert_eq!(rt; (pipe.params.latency_us, pipe.params.latency_ticks), (100, 1));
+        assert_eq!(rt;
+            (pipe.params.latency_us, pipe.params.latency_ticks),
+            (100, 1)
+        );
     }
     Ok(())
 }
@@ -154,7 +163,10 @@ fn a_row_of_nine_walked_in_and_out(rt: HostRuntime) -> Result<(), Fail> {
         (1, 7, 6, 6_000),
         (7, 1, 6, 6_000),
     ];
-    assert_eq!(rt; shape_of(rt.alloc(), &walked)?.as_slice(), expected.as_slice());
+    assert_eq!(rt;
+        shape_of(rt.alloc(), &walked)?.as_slice(),
+        expected.as_slice()
+    );
     Ok(())
 }
 
@@ -163,7 +175,13 @@ fn cores_that_touch_the_edge_keep_every_link(rt: HostRuntime) -> Result<(), Fail
     let topology = row_of(rt.alloc(), 9)?;
     let walked = distill(rt.alloc(), &topology, Mode::Walk(3), 100_000)?;
     assert_eq!(rt; walked.pipes().len(), 14);
-    assert_eq!(rt; walked.pipes().get(12).map(|pipe| (pipe.from, pipe.to, pipe.links)), Some((3, 5, 2)));
+    assert_eq!(rt;
+        walked
+            .pipes()
+            .get(12)
+            .map(|pipe| (pipe.from, pipe.to, pipe.links)),
+        Some((3, 5, 2))
+    );
     for o in 1..3 {
         let out = distill(rt.alloc(), &topology, Mode::WalkOut(3, o), 100_000)?;
         assert_eq!(rt; out.pipes().len(), 16);
@@ -190,6 +208,9 @@ fn too_many_pipes_are_counted(rt: HostRuntime) -> Result<(), Fail> {
     }
     let topology = topology_of(rt.alloc(), 1_002, &[0], &edges)?;
     let refused = distill(rt.alloc(), &topology, Mode::Walk(1), 100_000).err();
-    assert_eq!(rt; refused, Some(Refusal::Fault(TooManyPipes { count: 1_001_000 })));
+    assert_eq!(rt;
+        refused,
+        Some(Refusal::Fault(TooManyPipes { count: 1_001_000 }))
+    );
     Ok(())
 }
