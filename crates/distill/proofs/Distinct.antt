@@ -1,7 +1,7 @@
 -- Lists in which no element stands twice.
-use Rattle.std.proofs.Common.{◌≡◌, ◌≢◌, ℕ, zero, suc, ◌<◌, ◌≤◌, ◌+◌, ◌⊎◌, inl, inr, ⊎_elim, List, [], ◌∷◌, ◌++◌, length, take, get_or, map, refl, sym, ap, subst, ◌∙◌, arith, length-append}
+use Rattle.std.proofs.Common.{◌≡◌, ◌≢◌, ℕ, zero, suc, ◌<◌, ◌≤◌, inl, inr, ⊎_elim, List, [], ◌∷◌, ◌++◌, length, take, get_or, map, refl, sym, ap, subst, arith, length-append}
 use Rattle.mn_base.specs.Among.{Among}
-use Rattle.mn_base.proofs.Members.{Among-append, Among-append-left, Among-append-right, Among-from-map, Among-place, SplitAt, split_at}
+use Rattle.mn_base.proofs.Members.{Among-append, Among-append-left, Among-append-right, Among-from-map, Among-place, split_at}
 use Rattle.distill.specs.PipeCount.{AreDistinct}
 
 pub AreDistinct-append : {X : Type 0} (xs ys : List X) → AreDistinct xs → AreDistinct ys → ((x : X) → Among x xs → Among x ys → ⊥) → AreDistinct (xs ++ ys)

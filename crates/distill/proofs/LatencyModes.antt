@@ -21,7 +21,7 @@ use Rattle.walk_out.specs.WalkOut.{core_of, is_outer, walk_out_border}
 use Rattle.distill.specs.declared.modes.Mode.TheVariants.{Hop, Walk, End, WalkOut}
 use Rattle.distill.specs.declared.pipes.DistilledPipe.{DistilledPipe}
 use Rattle.distill.specs.Mesh.{arcs_of}
-use Rattle.distill.specs.Distilled.{ArePipes}
+use Rattle.distill.specs.Distilled.{ArePipesOfParts}
 use Rattle.distill.specs.Latency.{arcs_of_pipes, LatencyStays}
 use Rattle.distill.proofs.LatencyWalks.{Among-range}
 use Rattle.distill.proofs.LatencyParts.{IsClosedOff, distilled_by}
@@ -34,7 +34,7 @@ pub record ClosesOff (t : TopologyView) (outer : ℕ → Bool) (border : List �
 
 -- the law for such parts
 of_parts : (t : TopologyView) (tick_ns : ℕ) (outer : ℕ → Bool) (border : List ℕ) (pipes : List DistilledPipe) → ClosesOff t outer border
-    → ArePipes tick_ns t.links (parts_around t.links outer border) pipes
+    → ArePipesOfParts tick_ns t.links (parts_around t.links outer border) pipes
     → (a b : ℕ) → Among a (edge_nodes_of t.nodes) → Among b (edge_nodes_of t.nodes)
     → HaveSameLatency (arcs_of t.links) (arcs_of_pipes pipes) a b
 of_parts t tick_ns outer border pipes off are a b start end =

@@ -16,7 +16,7 @@ use Rattle.walk_out.specs.Parts.{no_link, link_at, is_outer_link, parts_around}
 use Rattle.distill.specs.declared.pipes.DistilledPipe.{DistilledPipe}
 use Rattle.distill.specs.Combination.{StandsFor}
 use Rattle.distill.specs.Mesh.{arc_of, links_at, arcs_of, StandsForLeast}
-use Rattle.distill.specs.Distilled.{IsKept, ArePipes}
+use Rattle.distill.specs.Distilled.{IsKept, ArePipesOfParts}
 use Rattle.distill.specs.Latency.{arc_of_pipe, arcs_of_pipes}
 use Rattle.distill.proofs.LatencyWalks.{Among-range, arc_at-links, arc_at-middle, middle_walk, us_along-walk, pipe_arc}
 
@@ -73,7 +73,7 @@ pub record IsClosedOff (links : List Link) (outer : ℕ → Bool) (border : List
   pub enters : (l : Link) → Among l links → outer l.from ≡ true → outer l.to ≡ false → Among l.to border
 
 module _ (tick_ns : ℕ) (links : List Link) (outer : ℕ → Bool) (border : List ℕ) (pipes : List DistilledPipe)
-    (are : ArePipes tick_ns links (parts_around links outer border) pipes) where
+    (are : ArePipesOfParts tick_ns links (parts_around links outer border) pipes) where
   -- whether a link, by its number, is kept
   abbrev is_kept : ℕ → Bool
   is_kept e = is_outer_link outer (link_at links e)

@@ -9,4 +9,5 @@ pub mod MeshPairs
 pub mod MeshRows
 pub mod Narrowest
 pub mod PartsSound
+pub mod PipeCounts
 pub mod SortedMesh

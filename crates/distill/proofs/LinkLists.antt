@@ -1,11 +1,10 @@
 -- Lists of links as arcs, and pipes for links one by one.
-use Rattle.std.proofs.Common.{◌≡◌, ℕ, ◌<◌, ◌≤◌, ◌+◌, List, [], ◌∷◌, ◌++◌, length, take, get_or, All, sym, subst, arith}
+use Rattle.std.proofs.Common.{◌≡◌, ℕ, ◌<◌, ◌+◌, List, [], ◌∷◌, ◌++◌, length, take, get_or, All, sym, subst, arith}
 use Rattle.std.specs.List.{AllZip}
 use Rattle.std.proofs.lemmas.List.{take_more, length-map}
 use Rattle.std.proofs.lemmas.List.Elements.{All-map, All-get_or}
 use Rattle.topo.specs.declared.parts.Link.{Link}
 use Rattle.topo.specs.Topologies.{IsLink}
-use Rattle.routes.specs.declared.graph.Arc.{Arc}
 use Rattle.routes.specs.GraphView.{IsArcAmong}
 use Rattle.walk_out.specs.Parts.{no_link, link_at}
 use Rattle.distill.specs.declared.pipes.DistilledPipe.{DistilledPipe}

@@ -1,23 +1,22 @@
 -- The pipes that are made of parts: the kept ones, and behind them the mesh.
-use Rattle.std.proofs.Common.{◌≡◌, ℕ, suc, ◌+◌, ◌<◌, ◌≤◌, List, [], ◌∷◌, ◌++◌, length, take, drop, get_or, All, refl, sym, ap, subst, ◌∙◌, arith, length-append}
+use Rattle.std.proofs.Common.{◌≡◌, ℕ, suc, ◌+◌, ◌<◌, List, [], ◌∷◌, ◌++◌, length, take, drop, get_or, All, refl, sym, ap, subst, ◌∙◌, arith, length-append}
 use Rattle.std.specs.List.{AllZip}
 use Rattle.std.proofs.lemmas.List.{length-map}
 use Rattle.std.proofs.lemmas.List.Elements.{All-append, All-cons}
 use Rattle.std.proofs.Math.Seq.{take-append_seam, drop-append_seam}
 use Rattle.mn_base.specs.Ranges.{AreInRange}
-use Rattle.mn_base.specs.Among.{Among}
 use Rattle.mn_base.proofs.Members.{All-Among, Among-place}
 use Rattle.topo.specs.declared.parts.Link.{Link}
 use Rattle.topo.specs.Topologies.{IsLink}
 use Rattle.walk_out.specs.Parts.{PartsView, link_at}
 use Rattle.distill.specs.declared.pipes.DistilledPipe.{DistilledPipe}
 use Rattle.distill.specs.Mesh.{arcs_of, links_at, IsMesh}
-use Rattle.distill.specs.Distilled.{IsKept, ArePipes, IsPipeAmong}
+use Rattle.distill.specs.Distilled.{IsKept, ArePipesOfParts, IsPipeAmong}
 use Rattle.distill.specs.PipeCount.{HasPairCount, HasPartsCount}
 use Rattle.distill.proofs.LinkLists.{All-links_at}
 use Rattle.distill.proofs.SortedMesh.{length-mesh}
 
-length-AllZip : {A B : Type 0} (R : A → B → Type 0) (xs : List A) (ys : List B) → AllZip R xs ys → length xs ≡ length ys
+pub length-AllZip : {A B : Type 0} (R : A → B → Type 0) (xs : List A) (ys : List B) → AllZip R xs ys → length xs ≡ length ys
 length-AllZip R [] [] all = refl
 length-AllZip R [] (y ∷ ys) all = absurd all
 length-AllZip R (x ∷ xs) [] all = absurd all
@@ -32,7 +31,7 @@ pub record AreMade (tick_ns : ℕ) (links : List Link) (parts : PartsView) (kept
 kept_len : (tick_ns : ℕ) (links : List Link) (parts : PartsView) (kept mesh pipes : List DistilledPipe) → AreMade tick_ns links parts kept mesh pipes → length parts.kept ≡ length kept
 kept_len tick_ns links parts kept mesh pipes m = sym (length-map parts.kept (link_at links)) ∙ length-AllZip (IsKept tick_ns) (links_at links parts.kept) kept m.kept_are
 
-pub are_pipes : (tick_ns : ℕ) (links : List Link) (parts : PartsView) (kept mesh pipes : List DistilledPipe) → AreMade tick_ns links parts kept mesh pipes → ArePipes tick_ns links parts pipes
+pub are_pipes : (tick_ns : ℕ) (links : List Link) (parts : PartsView) (kept mesh pipes : List DistilledPipe) → AreMade tick_ns links parts kept mesh pipes → ArePipesOfParts tick_ns links parts pipes
 are_pipes tick_ns links parts kept mesh pipes m =
     let len = kept_len tick_ns links parts kept mesh pipes m in
     let front : take (length parts.kept) pipes ≡ kept = ap (λ n. take n pipes) len ∙ ap (take (length kept)) m.pipes_are ∙ take-append_seam kept mesh in

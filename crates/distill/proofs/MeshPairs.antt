@@ -1,5 +1,5 @@
 -- Pairs of the mesh, destination by destination.
-use Rattle.std.proofs.Common.{◌≡◌, ◌≢◌, ℕ, ◌+◌, ◌<◌, ◌≤◌, ◌*◌, ◌⊎◌, inl, inr, ⊎_elim, List, [], ◌∷◌, ◌++◌, length, take, get_or, map, refl, sym, ap, subst, ◌∙◌, arith, length-append}
+use Rattle.std.proofs.Common.{◌≡◌, ℕ, ◌+◌, ◌<◌, ◌≤◌, inl, inr, ⊎_elim, List, [], ◌∷◌, ◌++◌, length, take, get_or, map, refl, sym, ap, subst, ◌∙◌, arith, length-append}
 use Rattle.std.proofs.lemmas.List.{map-append, take_more, take_all, length-map}
 use Rattle.mn_base.specs.Among.{Among}
 use Rattle.mn_base.proofs.Members.{Among-append, Among-append-left, Among-append-right, Among-push, Among-map, Among-from-map, Among-place}

@@ -1,19 +1,17 @@
 -- What holds of the parts of every mode: numbers that the topology has, and no node twice on the border.
-use Rattle.std.proofs.Common.{◌≡◌, ℕ, zero, suc, ◌+◌, ◌<◌, ◌≤◌, Bool, true, false, not, cond, List, [], ◌∷◌, ◌++◌, length, get_or, filter, take, All, refl, sym, ap, subst, ◌∙◌, inl, inr, arith, ⊎_elim, ◌⊎◌}
+use Rattle.std.proofs.Common.{ℕ, zero, suc, ◌+◌, ◌<◌, ◌≤◌, Bool, true, false, not, cond, List, [], ◌∷◌, ◌++◌, length, get_or, filter, take, All, inl, inr, arith}
 use Rattle.std.specs.List.{range_with_len}
-use Rattle.std.proofs.lemmas.List.FromFn.{length-range_with_len, get_or-range_with_len}
+use Rattle.std.proofs.lemmas.List.FromFn.{length-range_with_len}
 use Rattle.mn_base.specs.Among.{Among}
 use Rattle.mn_base.specs.declared.limits.TheConstants.{NODES_MAX, FRONTIERS_MAX}
-use Rattle.mn_base.proofs.Members.{Among-from-filter, PlaceOf, place_of}
-use Rattle.topo.specs.declared.parts.Link.{Link}
+use Rattle.mn_base.proofs.Members.{Among-from-filter}
 use Rattle.topo.specs.TopologyView.{TopologyView}
 use Rattle.topo.specs.Nodes.{edge_nodes_of}
 use Rattle.frontier.specs.NodeSets.{is_in_one}
-use Rattle.frontier.specs.Frontiers.{frontier_after, frontiers_of}
+use Rattle.frontier.specs.Frontiers.{frontiers_of}
 use Rattle.frontier.proofs.Numbers.{filter-range-below}
-use Rattle.frontier.proofs.Layers.{length-frontiers_of}
 use Rattle.walk_out.specs.Parts.{link_at, is_outer_link, parts_around}
-use Rattle.walk_out.specs.WalkOut.{hop_parts, walk_parts, walk_out_parts, walk_out_border, is_outer}
+use Rattle.walk_out.specs.WalkOut.{is_outer}
 use Rattle.distill.specs.declared.modes.Mode.{Mode}
 use Rattle.distill.specs.declared.modes.Mode.TheVariants.{Hop, Walk, End, WalkOut}
 use Rattle.distill.specs.Modes.{parts_of}

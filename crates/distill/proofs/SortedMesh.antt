@@ -1,12 +1,11 @@
 -- The mesh, put in the order of its ends.
-use Rattle.std.proofs.Common.{◌≡◌, ◌≢◌, ◌⊎◌, ℕ, suc, zero, ◌+◌, ◌<◌, Bool, true, false, eqb, List, [], ◌∷◌, ◌++◌, length, length-append, take, drop, get_or, map, AllPairs, All, refl, sym, ap, subst, ◌∙◌, inl, inr, arith, true≢false, ⊎_elim, IsTrue}
-use Rattle.std.specs.Bool.{Decides}
+use Rattle.std.proofs.Common.{◌≡◌, ◌≢◌, ◌⊎◌, ℕ, suc, ◌+◌, ◌<◌, false, List, [], ◌∷◌, ◌++◌, length, length-append, take, drop, get_or, map, AllPairs, sym, ap, subst, ◌∙◌, inl, inr, arith, true≢false, ⊎_elim}
 use Rattle.std.specs.List.Sorted.{IsPermutation, IsSortedByKey}
 use Rattle.std.specs.Cmp.{IsTotalOrder, nat_cmp_is}
 use Rattle.std.specs.declared.cmp.Ordering.{Ordering}
 use Rattle.std.specs.declared.cmp.Ordering.TheVariants.{Less, Equal}
 use Rattle.std.specs.Ordering.{nat_cmp, is_lt, ordering_then}
-use Rattle.std.proofs.lemmas.Bool.{cases_eq, cases_order}
+use Rattle.std.proofs.lemmas.Bool.{cases_order}
 use Rattle.std.proofs.lemmas.Cmp.{nat_cmp_total, on_total, then_total}
 use Rattle.std.proofs.lemmas.List.{length-map, get_or-map, get_or-take, take-append-drop, drop_more, length-take-le}
 use Rattle.std.proofs.lemmas.List.MinMax.{ranks_by}
@@ -15,10 +14,10 @@ use Rattle.mn_base.specs.Among.{Among}
 use Rattle.mn_base.proofs.Members.{All-Among, Among-place, Among-map, Among-from-map, Among-append, Among-append-left, Among-append-right}
 use Rattle.topo.specs.declared.parts.Link.{Link}
 use Rattle.distill.specs.declared.pipes.DistilledPipe.{DistilledPipe}
-use Rattle.distill.specs.Mesh.{arcs_of, IsMeshPair, StandsForLeast, ComesBefore, HasPipe, IsMesh}
-use Rattle.distill.specs.PipeCount.{AreDistinct, AreMeshPairs, HasPairCount}
+use Rattle.distill.specs.Mesh.{arcs_of, IsMeshPair, ComesBefore, HasPipe, IsMesh}
+use Rattle.distill.specs.PipeCount.{AreDistinct, HasPairCount}
 use Rattle.distill.proofs.Distinct.{distinct_as_long, distinct_are_no_more}
-use Rattle.distill.proofs.MeshPairs.{ArePairsInto, ArePipesInto, ends_of}
+use Rattle.distill.proofs.MeshPairs.{ArePipesInto, ends_of}
 
 -- what stands in a list stands in each list that has the same elements in another order
 Among-permutation : {X : Type 0} (x : X) (xs ys : List X) → IsPermutation xs ys → Among x xs → Among x ys

@@ -5,7 +5,7 @@ use Rattle.mn_base.specs.declared.limits.TheConstants.{NODES_MAX, PIPES_MAX}
 use Rattle.topo.specs.declared.parts.Link.{Link}
 use Rattle.topo.specs.TopologyView.{TopologyView}
 use Rattle.topo.specs.Nodes.{edge_nodes_of}
-use Rattle.walk_out.specs.Parts.{PartsView, link_at}
+use Rattle.walk_out.specs.Parts.{PartsView}
 use Rattle.distill.specs.declared.modes.Mode.{Mode}
 use Rattle.distill.specs.declared.pipes.DistilledPipe.{DistilledPipe}
 use Rattle.distill.specs.Combination.{StandsFor}
@@ -23,7 +23,7 @@ abbrev pub IsKept : ℕ → Link → DistilledPipe → Type 0
 IsKept tick_ns link pipe = StandsFor tick_ns link.from link.to (link ∷ []) pipe
 
 -- the pipes of parts: the kept links in their order, and behind them the mesh
-pub record ArePipes (tick_ns : ℕ) (links : List Link) (parts : PartsView) (pipes : List DistilledPipe) : Type 0 where
+pub record ArePipesOfParts (tick_ns : ℕ) (links : List Link) (parts : PartsView) (pipes : List DistilledPipe) : Type 0 where
   pub kept : AllZip (IsKept tick_ns) (links_at links parts.kept) (take (length parts.kept) pipes)
   pub mesh : IsMesh tick_ns (links_at links parts.middle) parts.border (drop (length parts.kept) pipes)
 
@@ -31,7 +31,7 @@ pub record ArePipes (tick_ns : ℕ) (links : List Link) (parts : PartsView) (pip
 pub record IsDistilled (t : TopologyView) (mode : Mode) (tick_ns : ℕ) (d : DistilledView) : Type 0 where
   pub nodes : d.nodes ≡ length t.nodes
   pub edge_nodes : d.edge_nodes ≡ edge_nodes_of t.nodes
-  pub pipes : ArePipes tick_ns t.links (parts_of t mode) d.pipes
+  pub pipes : ArePipesOfParts tick_ns t.links (parts_of t mode) d.pipes
 
 -- a pipe of so many nodes
 pub record IsPipeAmong (nodes : ℕ) (pipe : DistilledPipe) : Type 0 where

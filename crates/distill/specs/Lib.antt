@@ -1,6 +1,7 @@
 pub mod Combination
 pub mod Distilled
 pub mod Latency
+pub mod Laws
 pub mod Mesh
 pub mod Modes
 pub mod PipeCount

@@ -1,11 +1,11 @@
 -- The mesh: a pipe for each ordered pair of different border nodes that a walk of the middle joins.
-use Rattle.std.specs.Prelude.{◌≡◌, ◌≢◌, ℕ, ◌<◌, ◌⊎◌, List, map, All, AllPairs}
+use Rattle.std.specs.Prelude.{◌≡◌, ◌≢◌, ℕ, ◌<◌, ◌⊎◌, List, map, AllPairs}
 use Rattle.mn_base.specs.Among.{Among}
 use Rattle.topo.specs.declared.parts.Link.{Link}
 use Rattle.routes.specs.declared.graph.Arc.{Arc}
 use Rattle.routes.specs.SameLatency.{IsJoined}
 use Rattle.routes.specs.LeastWalk.{IsLeastWalk}
-use Rattle.walk_out.specs.Parts.{PartsView, link_at}
+use Rattle.walk_out.specs.Parts.{link_at}
 use Rattle.distill.specs.declared.pipes.DistilledPipe.{DistilledPipe}
 use Rattle.distill.specs.Combination.{StandsFor}
 

@@ -1,5 +1,5 @@
 -- What holds of the parts of every mode.
-use Rattle.std.specs.Prelude.{ℕ, ◌<◌, ◌≤◌, List, length, All}
+use Rattle.std.specs.Prelude.{◌<◌, ◌≤◌, length, All}
 use Rattle.mn_base.specs.declared.limits.TheConstants.{NODES_MAX}
 use Rattle.topo.specs.TopologyView.{TopologyView}
 use Rattle.walk_out.specs.Parts.{PartsView}

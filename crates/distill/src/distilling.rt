@@ -2,7 +2,7 @@ ghost use Rattle.std.specs.Prelude.{◌≡◌, ◌<◌, ◌≤◌, IfOk, IfErr, 
 ghost use Rattle.mn_base.specs.declared.limits.TheConstants.{PIPES_MAX, FRONTIERS_MAX};
 ghost use Rattle.mn_base.specs.Ranges.{IsTickLength};
 ghost use Rattle.mn_base.specs.Refused.{IfFault};
-ghost use Rattle.distill.specs.Distilled.{ArePipes, IsDistilled, IsPipeAmong};
+ghost use Rattle.distill.specs.Distilled.{ArePipesOfParts, IsDistilled, IsPipeAmong};
 ghost use Rattle.distill.specs.Modes.{IsMode, parts_of};
 ghost use Rattle.distill.specs.PipeCount.{HasPartsCount, HasPipeCount};
 ghost use Rattle.distill.specs.Sound.{AreSound};
@@ -61,7 +61,7 @@ fn pipes_of(
 ) -> Result<Vec<DistilledPipe>, Refusal<TooManyPipes>>
     requires parts { AreSound topology.now parts.now }
     requires tick { IsTickLength tick_ns }
-    ensures pipes { IfOk result (λ pipes. ArePipes tick_ns topology.now.links parts.now pipes.items) }
+    ensures pipes { IfOk result (λ pipes. ArePipesOfParts tick_ns topology.now.links parts.now pipes.items) }
     ensures count { IfOk result (λ pipes. HasPartsCount topology.now.links parts.now (length pipes.items)) }
     ensures few { IfOk result (λ pipes. length pipes.items ≤ PIPES_MAX) }
     ensures below { IfOk result (λ pipes. All (IsPipeAmong (length topology.now.nodes)) pipes.items) }

@@ -1,8 +1,8 @@
 -- Kept and other links, as the code finds them one by one.
-use Rattle.std.proofs.Common.{◌≡◌, ℕ, Bool, not, List, length, filter, refl, sym, ◌∙◌, ap}
+use Rattle.std.proofs.Common.{◌≡◌, ℕ, Bool, not, List, length, filter, ◌∙◌, ap}
 use Rattle.std.specs.List.{range_with_len}
 use Rattle.topo.specs.declared.parts.Link.{Link}
-use Rattle.walk_out.specs.Parts.{PartsView, link_at, is_outer_link, parts_around}
+use Rattle.walk_out.specs.Parts.{link_at, is_outer_link, parts_around}
 
 pub parts_around-is : (links lent : List Link) (outer : ℕ → Bool) (n : ℕ) (kept border middle : List ℕ) → lent ≡ links → n ≡ length lent
     → kept ≡ filter (λ e. is_outer_link outer (link_at lent e)) (range_with_len 0 n)

@@ -1,9 +1,8 @@
 -- Every link is kept where every node is outer.
-use Rattle.std.proofs.Common.{◌≡◌, ℕ, Bool, true, false, not, List, [], ◌∷◌, length, filter, refl, sym, ◌∙◌, ap}
+use Rattle.std.proofs.Common.{◌≡◌, ℕ, true, false, List, [], ◌∷◌, length, filter, refl, sym, ◌∙◌, ap}
 use Rattle.std.specs.List.{range_with_len}
 use Rattle.topo.specs.TopologyView.{TopologyView}
 use Rattle.frontier.proofs.Numbers.{filter-none}
-use Rattle.walk_out.specs.Parts.{PartsView}
 use Rattle.walk_out.specs.WalkOut.{hop_parts}
 
 filter-all : (ns : List ℕ) → filter (λ e. true) ns ≡ ns

@@ -1,5 +1,5 @@
 -- Parts by sets of nodes that the code keeps as marks, and by frontiers that it keeps as vectors.
-use Rattle.std.proofs.Common.{◌≡◌, ℕ, ◌+◌, ◌-◌, ◌<◌, ◌≤◌, ◌&&◌, ◌||◌, min, max, Vec, Global, Bool, true, false, not, List, [], ◌∷◌, length, get_or, filter, map, take, drop, All, refl, sym, ◌∙◌, ap, subst, arith, inl, inr, ◌⊎◌}
+use Rattle.std.proofs.Common.{◌≡◌, ℕ, ◌+◌, ◌-◌, ◌<◌, ◌&&◌, ◌||◌, min, max, Vec, Global, Bool, not, List, [], length, get_or, filter, map, take, drop, All, sym, ◌∙◌, ap, subst, arith, inl, inr, ◌⊎◌}
 use Rattle.std.specs.List.{range_with_len}
 use Rattle.std.proofs.lemmas.Bool.{cases_order}
 use Rattle.std.proofs.lemmas.List.{get_or-map, length-map, take-map, drop-map, drop_all}
@@ -9,9 +9,9 @@ use Rattle.topo.specs.TopologyView.{TopologyView}
 use Rattle.frontier.specs.NodeSets.{is_in, is_in_one, is_beside}
 use Rattle.frontier.specs.Frontiers.{frontiers_of}
 use Rattle.frontier.proofs.Numbers.{filter-same}
-use Rattle.frontier.proofs.Layers.{length-frontiers_of, frontiers_of-below, is_beside-same, last-is}
-use Rattle.walk_out.specs.Parts.{PartsView, link_at, is_outer_link, parts_around}
-use Rattle.walk_out.specs.WalkOut.{hop_parts, walk_parts, nonempty_count, core_of, is_outer, walk_out_border}
+use Rattle.frontier.proofs.Layers.{length-frontiers_of, frontiers_of-below, is_beside-same}
+use Rattle.walk_out.specs.Parts.{link_at, is_outer_link, parts_around}
+use Rattle.walk_out.specs.WalkOut.{walk_parts, nonempty_count, core_of, is_outer, walk_out_border}
 
 -- vectors as lists
 abbrev pub items_of : List (Vec ℕ Global) → List (List ℕ)

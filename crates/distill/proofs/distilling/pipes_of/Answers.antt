@@ -1,6 +1,6 @@
-use Rattle.std.proofs.Common.{◌≡◌, ◌≤◌, ◌<◌, ◌+◌, ◌*◌, ◌++◌, All, ℕ, List, length, take, ap, sym, subst, ◌∙◌, arith}
+use Rattle.std.proofs.Common.{◌≡◌, ◌≤◌, ◌*◌, ◌++◌, All, ℕ, List, length, ap, sym, subst, ◌∙◌, arith}
 use Rattle.std.specs.List.{AllZip}
-use Rattle.mn_base.specs.declared.limits.TheConstants.{NODES_MAX, PIPES_MAX, LINKS_MAX}
+use Rattle.mn_base.specs.declared.limits.TheConstants.{NODES_MAX}
 use Rattle.topo.specs.declared.parts.Link.{Link}
 use Rattle.topo.specs.Topologies.{IsLink}
 use Rattle.routes.specs.declared.graph.Arc.{Arc}
@@ -10,7 +10,7 @@ use Rattle.distill.specs.declared.pipes.DistilledPipe.{DistilledPipe}
 use Rattle.distill.specs.Mesh.{arcs_of, links_at, IsMesh}
 use Rattle.distill.specs.Distilled.{IsKept}
 use Rattle.distill.specs.PipeCount.{HasPairCount}
-use Rattle.distill.proofs.MadePipes.{AreMade, are_pipes, made_count, has_parts_count, made_among, values_of, chosen_links, AreChosenLinks}
+use Rattle.distill.proofs.MadePipes.{AreMade, are_pipes, made_count, has_parts_count, made_among, values_of, chosen_links}
 use Rattle.distill.proofs.distilling.pipes_of.Goals as goal
 
 pub graph_of-requires-clause-links : goal.graph_of-requires-clause-links

@@ -1,4 +1,4 @@
-use Rattle.std.proofs.Common.{◌≡◌, ◌+◌, ◌*◌, ◌≤◌, ℕ, List, length, get_or, subst, ap, arith}
+use Rattle.std.proofs.Common.{◌≡◌, List, get_or, subst, ap, arith}
 use Rattle.routes.specs.declared.graph.Arc.{Arc}
 use Rattle.routes.specs.GraphView.{GraphView}
 use Rattle.distill.specs.Rows.{HasSourceCount}

@@ -1,4 +1,4 @@
-use Rattle.std.proofs.Common.{◌≡◌, ◌+◌, ◌≤◌, Bool, true, false, ℕ, ap, ◌∙◌, subst, sym, arith, if◌then◌else◌}
+use Rattle.std.proofs.Common.{◌+◌, ℕ, subst, sym, arith}
 use Rattle.distill.specs.Rows.{HasSourceCount}
 use Rattle.std.proofs.Common.{take}
 use Rattle.distill.proofs.MeshRows.{source_count_next, no_source_count, one_or_none}

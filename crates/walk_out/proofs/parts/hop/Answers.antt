@@ -1,4 +1,4 @@
-use Rattle.std.proofs.Common.{◌≡◌, sym, ◌∙◌, ap, length, arith}
+use Rattle.std.proofs.Common.{ap, length, arith}
 use Rattle.walk_out.proofs.Hops.{hop_parts-is}
 use Rattle.walk_out.proofs.parts.hop.Goals as goal
 

@@ -1,4 +1,4 @@
-use Rattle.std.proofs.Common.{◌≡◌, sym, ◌∙◌, ap, length, arith}
+use Rattle.std.proofs.Common.{arith}
 use Rattle.frontier.specs.NodeSets.{has}
 use Rattle.walk_out.proofs.Around.{parts_around-is}
 use Rattle.walk_out.proofs.parts.parts_around.Goals as goal

@@ -1,14 +1,13 @@
-use Rattle.std.proofs.Common.{◌≡◌, ◌≤◌, ◌<◌, ◌-◌, ◌+◌, ◌||◌, max, slice_index_or, [], ℕ, List, Vec, Global, All, length, take, drop, sym, ap, subst, ◌∙◌, arith}
+use Rattle.std.proofs.Common.{◌≡◌, ◌<◌, ◌||◌, slice_index_or, [], ℕ, List, Vec, Global, All, length, take, sym, ap, subst, ◌∙◌, arith}
 use Rattle.std.proofs.lemmas.List.{length-take-le}
-use Rattle.std.proofs.lemmas.List.Elements.{All-take, All-drop, All-get_or}
+use Rattle.std.proofs.lemmas.List.Elements.{All-take, All-get_or}
 use Rattle.std.proofs.lemmas.Result.{IfOk-weaker}
 use Rattle.mn_base.specs.declared.limits.TheConstants.{FRONTIERS_MAX}
-use Rattle.topo.specs.TopologyView.{TopologyView}
 use Rattle.frontier.specs.NodeSets.{has, is_in, is_in_one, is_beside}
 use Rattle.frontier.specs.Frontiers.{frontiers_of}
 use Rattle.frontier.proofs.Layers.{last-is}
-use Rattle.walk_out.specs.WalkOut.{nonempty_count, core_of, is_outer, walk_out_border}
-use Rattle.walk_out.proofs.Outer.{Reads, reads, HasBelow, items_of, items_of-take, core_of-is, AreMarked, walk_out_border-is, parts_around-same, All-core}
+use Rattle.walk_out.specs.WalkOut.{core_of, is_outer, walk_out_border}
+use Rattle.walk_out.proofs.Outer.{reads, HasBelow, items_of, items_of-take, core_of-is, AreMarked, walk_out_border-is, parts_around-same, All-core}
 use Rattle.walk_out.proofs.walks.walk_out.Goals as goal
 
 pub slice_bounds-add_all-end : goal.slice_bounds-add_all-end
