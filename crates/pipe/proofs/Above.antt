@@ -2,8 +2,8 @@
 use Rattle.std.proofs.Common.{◌≡◌, ℕ, ◌+◌, ◌<◌, ◌≤◌, Bool, true, false, cond, nat_lt, List, [], ◌∷◌, ◌++◌, length, length-append, get_or, refl, ap, sym, ◌∙◌, arith}
 use Rattle.std.specs.List.{All, filter}
 use Rattle.std.specs.List.Sorted.{IsNonDecreasing}
-use Rattle.std.proofs.lemmas.Bool.{lt-ltb, le-ltb, ltb-false}
-use Rattle.std.proofs.lemmas.List.Elements.{All-head, All-tail, filter-append}
+use Rattle.std.proofs.lemmas.Bool.{lt-ltb, le-ltb, ltb-true, ltb-false}
+use Rattle.std.proofs.lemmas.List.Elements.{All-head, All-tail, All-weaker, filter-append, filter_passes}
 use Rattle.pipe.specs.Finishes.{above}
 
 -- a test that each element passes keeps the list
@@ -36,11 +36,17 @@ pub above-later : (x now : ℕ) (xs ys : List ℕ) → now ≤ x → above now x
 above-later x now xs ys low same =
     sym (above-above x now xs low) ∙ ap (λ zs. above x zs) same ∙ above-above x now ys low
 
+-- each is above it
+pub all-above : (now : ℕ) (xs : List ℕ) → All (λ x. now < x) (above now xs)
+all-above now xs = All-weaker (λ x. nat_lt now x ≡ true) (λ x. now < x) (λ x. ltb-true now x) (above now xs) (filter_passes (λ x. nat_lt now x) xs)
+
 -- one more finish counts exactly at the moments before it
-pub length-above-push : (x : ℕ) (xs : List ℕ) (y : ℕ) → length (above x (xs ++ y ∷ [])) ≡ length (above x xs) + cond (nat_lt x y) 1 0
-length-above-push x xs y =
-    ap length (filter-append (λ z. nat_lt x z) xs (y ∷ []))
-    ∙ length-append (above x xs) (above x (y ∷ []))
+pub length-above-push : (x now : ℕ) (xs : List ℕ) (y : ℕ) → now ≤ x
+    → length (above x (xs ++ above now (y ∷ []))) ≡ length (above x xs) + cond (nat_lt x y) 1 0
+length-above-push x now xs y low =
+    ap length (filter-append (λ z. nat_lt x z) xs (above now (y ∷ [])))
+    ∙ length-append (above x xs) (above x (above now (y ∷ [])))
+    ∙ ap (λ zs. length (above x xs) + length zs) (above-above x now (y ∷ []) low)
     ∙ ap (λ n. length (above x xs) + n) (one (nat_lt x y))
   where
     one : (b : Bool) → length (cond b (y ∷ []) []) ≡ cond b 1 0

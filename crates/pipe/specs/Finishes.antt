@@ -6,7 +6,7 @@ use Rattle.pipe.specs.declared.step.Step.{Step}
 use Rattle.pipe.specs.declared.step.Step.TheVariants.{Lost, Full, Pass}
 
 -- one visit to a pipe: its tick, its packet's length in bytes and what came of it
-pub record Arrival : Type 0 where
+pub record PastVisit : Type 0 where
   pub tick : ℕ
   pub len : ℕ
   pub step : Step
@@ -22,7 +22,7 @@ abbrev pub finish_of : (ℕ → PipeParams) → ℕ → ℕ → ℕ → ℕ → 
 finish_of at T last tick len = max (tick * T) last + transmission (at tick).bps len
 
 -- the finishes of the passed visits, in order; `last` is the finish before them
-abbrev pub finishes : (ℕ → PipeParams) → ℕ → ℕ → List Arrival → List ℕ
+abbrev pub finishes : (ℕ → PipeParams) → ℕ → ℕ → List PastVisit → List ℕ
 finishes at T last [] = []
 finishes at T last (v ∷ h) =
     if has_passed v.step
@@ -30,7 +30,7 @@ finishes at T last (v ∷ h) =
     else finishes at T last h
 
 -- the finish of the last passed visit, or `last` where none passed
-abbrev pub last_finish : (ℕ → PipeParams) → ℕ → ℕ → List Arrival → ℕ
+abbrev pub last_finish : (ℕ → PipeParams) → ℕ → ℕ → List PastVisit → ℕ
 last_finish at T last [] = last
 last_finish at T last (v ∷ h) =
     last_finish at T (if has_passed v.step then finish_of at T last v.tick v.len else last) h

@@ -1,4 +1,5 @@
 pub mod Finishes
 pub mod Inside
-pub mod Memory
-pub mod Outcome
+pub mod Params
+pub mod PipeView
+pub mod Steps

@@ -1,103 +1,149 @@
-ghost use Rattle.std.specs.Prelude.{◌≡◌, ℕ, ◌+◌, ◌*◌, ◌^◌, ◌<◌, ◌≤◌, List, [], length, IfOk, OnOk, OnErr};
+ghost use Rattle.std.specs.Prelude.{◌≡◌, ℕ, ◌+◌, ◌*◌, ◌^◌, ◌<◌, ◌≤◌, ◌∷◌, ◌++◌, List, [], length, All, AllPairs, IfOk, OnOk, OnErr};
 ghost use Rattle.std.specs.List.Sorted.{IsNonDecreasing};
 ghost use Rattle.std.specs.VecDeque.{deque_len, deque_capacity};
 ghost use Rattle.std.specs.Int.{div_ceil};
-ghost use Rattle.mn_base.specs.Units.{transmission};
-ghost use Rattle.pipe.specs.Finishes.{Arrival, above};
-ghost use Rattle.pipe.specs.Outcome.{outcome, visited, IfPass};
-ghost use Rattle.pipe.specs.Memory.{StandsFor, params_at, fresh};
+ghost use Rattle.pipe.specs.Finishes.{PastVisit, above};
+ghost use Rattle.pipe.specs.Steps.{step_at, visited, IfPass};
+ghost use Rattle.pipe.specs.PipeView.{StandsFor, params_at, idle_view, greatest_queue, greatest_transmission};
 
+use crate::in_force::{InForce, in_force_at};
 use crate::step::Step;
+use mn_base::limits::{PACKET_BYTES_MAX, PACKETS_MAX, TICK_NS_MAX, TICK_NS_MIN};
 use mn_base::{NoMemory, PipeParams, tx_ns};
 use std::alloc::Global;
 use std::collections::VecDeque;
 use std::marker::Model;
 
-/// One pipe, with what it remembers of its visits: the last tick, the last finish and the finishes that may still count.
+/// One pipe, with what it remembers of its visits: the last tick, the last finish, how many there were, and the finishes that
+/// may still count.
 ///
-/// A visit costs the same however many there were before, taken together: each finish is put in once and taken out once.
+/// A visit costs the same however many there were before, taken together: each finish is put in once and taken out once, and
+/// each change of the parameters is come to once. A pipe without visits holds no memory but its changes.
 #[derive(Debug, Drop)]
 pub struct Pipe {
-    params: PipeParams,
+    in_force: InForce,
     tick_ns: u64,
     last_tick: u64,
     last_finish: u64,
     kept: VecDeque<u64>,
+    visits: u32,
+    first: PipeParams,
+    changes: Vec<(u64, PipeParams)>,
 }
 
 impl Model for Pipe {
-    ghost use Rattle.pipe.specs.Memory.{Memory};
+    ghost use Rattle.pipe.specs.PipeView.{PipeView};
 
-    ghost Value = { Memory };
+    ghost Value = { PipeView };
 
-    ghost use Rattle.pipe.specs.Inside.{memory_of, IsBoundedInside};
+    ghost use Rattle.pipe.specs.Inside.{view_of, IsSound};
 
-    ghost view = { memory_of };
+    ghost view = { view_of };
 
-    ghost invariant = { IsBoundedInside };
+    ghost invariant = { IsSound };
 }
 
 impl Pipe {
-    /// A pipe without visits, for ticks of `tick_ns` ns.
+    /// A pipe without visits whose parameters never change, for ticks of `tick_ns` ns.
     pub fn new(alloc: Global, params: PipeParams, tick_ns: u64) -> Pipe
-        requires tick_least { 1000 ≤ tick_ns }
-        requires tick_most { tick_ns ≤ 10000000 }
-        ensures fresh { result ≡ fresh params tick_ns }
+        requires tick_least { TICK_NS_MIN ≤ tick_ns }
+        requires tick_most { tick_ns ≤ TICK_NS_MAX }
+        ensures idle { result ≡ idle_view params [] tick_ns }
+        ensures stands { StandsFor result [] }
+    {
+        Pipe::with_changes(alloc, params, Vec::new(alloc), tick_ns)
+    }
+
+    /// A pipe without visits, for ticks of `tick_ns` ns: its first parameters, and the ticks at which they change, each with the
+    /// parameters from that tick on.
+    pub fn with_changes(
+        alloc: Global,
+        first: PipeParams,
+        changes: Vec<(u64, PipeParams)>,
+        tick_ns: u64,
+    ) -> Pipe
+        requires tick_least { TICK_NS_MIN ≤ tick_ns }
+        requires tick_most { tick_ns ≤ TICK_NS_MAX }
+        requires rising { AllPairs (λ c d. c.0 < d.0) changes.items }
+        ensures idle { result ≡ idle_view first changes.items tick_ns }
         ensures stands { StandsFor result [] }
     {
         Pipe {
-            params,
+            in_force: InForce {
+                params: first,
+                reached: 0,
+            },
             tick_ns,
             last_tick: 0,
             last_finish: 0,
             kept: VecDeque::new(alloc),
+            visits: 0,
+            first,
+            changes,
         }
     }
 
+    /// How many visits there were, dropped ones among them.
+    pub fn visits(&self) -> u32
+        ensures { result ≡ self.now.visits }
+    {
+        self.visits
+    }
+
     /// Adds a visit at `tick` by a packet of `len` bytes, and says what comes of it. `lost` says that its loss word is at
-    /// least the pipe's keep.
+    /// least the keep of the pipe's parameters at that tick.
     ///
     /// At 8,000,000 bit/s, 50 ticks of latency and ticks of 100,000 ns, a packet of 1,000 bytes at tick 0 exits at tick 60:
     /// it transmits for 10 ticks. `NoMemory` leaves the pipe as it was.
     pub fn visit(&mut self, tick: u64, len: u32, lost: bool) -> Result<Step, NoMemory>
         requires order { self.old.last_tick ≤ tick }
         requires time { tick * self.old.tick_ns < 2 ^ 62 }
-        requires len { len ≤ 262144 }
+        requires len { len ≤ PACKET_BYTES_MAX }
+        requires few { self.old.visits < PACKETS_MAX }
 
         // The recurrence, for each list of earlier visits that this pipe stands for.
-        ensures outcome { IfOk result (λ step. (h : List Arrival) → StandsFor self.old h
-            → step ≡ outcome (params_at self.old) self.old.tick_ns h tick len lost) }
-        ensures stands { OnOk result ((h : List Arrival) → StandsFor self.old h
+        ensures step { IfOk result (λ step. (h : List PastVisit) → StandsFor self.old h
+            → step ≡ step_at (params_at self.old) self.old.tick_ns h tick len lost) }
+        ensures stands { OnOk result ((h : List PastVisit) → StandsFor self.old h
             → StandsFor self.new (visited (params_at self.old) self.old.tick_ns h tick len lost)) }
 
-        // The last tick is this one; parameters and tick length stay.
+        // The last tick is this one, and there is one visit more; parameters, changes and tick length stay.
         ensures last_tick { OnOk result (self.new.last_tick ≡ tick) }
-        ensures params { self.new.params ≡ self.old.params }
+        ensures visits { OnOk result (self.new.visits ≡ self.old.visits + 1) }
+        ensures first { self.new.first ≡ self.old.first }
+        ensures changes { self.new.changes ≡ self.old.changes }
         ensures tick_ns { self.new.tick_ns ≡ self.old.tick_ns }
         ensures err { OnErr result (self.new ≡ self.old) }
 
-        // A packet that passes waits and transmits for at most as long as a full queue of longest packets takes.
-        ensures few { OnOk result (length self.new.kept ≤ self.old.params.queue) }
+        // What is kept is above this tick, in order, and no longer than the greatest queue.
+        ensures kept { OnOk result (All (λ finish. tick * self.old.tick_ns < finish) self.new.kept) }
+        ensures rising { OnOk result (IsNonDecreasing self.new.kept) }
+        ensures short { OnOk result (length self.new.kept ≤ greatest_queue self.old) }
+
+        // A packet that passes waits and transmits for at most as long as the greatest queue of longest packets takes.
         ensures exit { IfOk result (λ step. IfPass step (λ exit.
-            exit ≡ div_ceil self.new.last_finish self.old.tick_ns + self.old.params.latency_ticks)) }
+            exit ≡ div_ceil self.new.last_finish self.old.tick_ns + (params_at self.old tick).latency_ticks)) }
         ensures bound { IfOk result (λ step. IfPass step (λ exit.
-            self.new.last_finish ≤ tick * self.old.tick_ns + self.old.params.queue * transmission self.old.params.bps 262144)) }
+            self.new.last_finish ≤ tick * self.old.tick_ns + greatest_queue self.old * greatest_transmission self.old)) }
     {
         let now = tick * self.tick_ns;
         self.kept.reserve(1)?;
         drop_finished(&mut self.kept, now);
+        self.in_force = in_force_at(&self.changes, self.in_force, tick);
         self.last_tick = tick;
+        self.visits += 1;
         if lost {
             return Ok(Step::Lost);
         }
-        if self.kept.len() >= self.params.queue as usize {
+        let params = self.in_force.params;
+        if self.kept.len() >= params.queue as usize {
             return Ok(Step::Full);
         }
-        let finish = now.max(self.last_finish) + tx_ns(self.params.bps, len);
-        self.kept.push_back_reserved(finish);
+        let finish = now.max(self.last_finish) + tx_ns(params.bps, len);
+        keep_later(&mut self.kept, now, finish);
         self.last_finish = finish;
         Ok(Step::Pass {
-            exit: finish.div_ceil(self.tick_ns) + self.params.latency_ticks,
+            exit: finish.div_ceil(self.tick_ns) + params.latency_ticks,
         })
     }
 }
@@ -117,74 +163,12 @@ fn drop_finished(times: &mut VecDeque<u64>, now: u64)
     }
 }
 
-#[cfg(test)]
-mod tests {
-    use super::*;
-    use std::test::Fail;
-
-    /// 8,000,000 bit/s, on which 1,000 bytes take 10 ticks of 100,000 ns.
-    fn pipe(alloc: Global, latency_us: u64, queue: u32) -> Pipe
-        requires latency { latency_us ≤ 10000000 }
-        requires queue_least { 1 ≤ queue }
-        requires queue_most { queue ≤ 1000 }
-        ensures last_tick { result.last_tick ≡ 0 }
-        ensures tick_ns { result.tick_ns ≡ 100000 }
-    {
-        let params = PipeParams::new(8_000_000, latency_us, queue, 4_294_967_296, 100_000);
-        Pipe::new(alloc, params, 100_000)
-    }
-
-    #[test]
-    fn one_packet_transmits_and_is_delayed(rt: HostRuntime) -> Result<(), Fail> {
-        let mut one = pipe(rt.alloc(), 5_000, 50);
-        assert_eq!(rt; one.visit(0, 1_000, false)?, Step::Pass { exit: 60 });
-        Ok(())
-    }
-
-    #[test]
-    fn empty_packets_are_delayed_alone(rt: HostRuntime) -> Result<(), Fail> {
-        let mut empty = pipe(rt.alloc(), 5_000, 50);
-        assert_eq!(rt; empty.visit(0, 0, false)?, Step::Pass { exit: 50 });
-        assert_eq!(rt; empty.visit(7, 0, false)?, Step::Pass { exit: 57 });
-        Ok(())
-    }
-
-    #[test]
-    fn the_second_packet_waits_for_the_first(rt: HostRuntime) -> Result<(), Fail> {
-        let mut two = pipe(rt.alloc(), 5_000, 50);
-        assert_eq!(rt; two.visit(0, 1_000, false)?, Step::Pass { exit: 60 });
-        assert_eq!(rt; two.visit(0, 1_000, false)?, Step::Pass { exit: 70 });
-        Ok(())
-    }
-
-    #[test]
-    fn a_finish_at_the_tick_is_out_of_the_queue(rt: HostRuntime) -> Result<(), Fail> {
-        let mut short = pipe(rt.alloc(), 5_000, 1);
-        assert_eq!(rt; short.visit(0, 1_000, false)?, Step::Pass { exit: 60 });
-        assert_eq!(rt; short.visit(9, 1_000, false)?, Step::Full);
-        assert_eq!(rt; short.visit(10, 1_000, false)?, Step::Pass { exit: 70 });
-        Ok(())
-    }
-
-    #[test]
-    fn no_latency_is_one_tick(rt: HostRuntime) -> Result<(), Fail> {
-        let mut near = pipe(rt.alloc(), 0, 50);
-        assert_eq!(rt; near.visit(0, 1_000, false)?, Step::Pass { exit: 11 });
-        Ok(())
-    }
-
-    fn may_move_to_a_thread<T: Send>(_value: &T) {}
-
-    #[test]
-    fn a_pipe_may_move_to_a_thread(rt: HostRuntime) {
-        may_move_to_a_thread(&pipe(rt.alloc(), 5_000, 50));
-    }
-
-    #[test]
-    fn a_lost_packet_takes_no_place(rt: HostRuntime) -> Result<(), Fail> {
-        let mut lossy = pipe(rt.alloc(), 5_000, 1);
-        assert_eq!(rt; lossy.visit(0, 1_000, true)?, Step::Lost);
-        assert_eq!(rt; lossy.visit(0, 1_000, false)?, Step::Pass { exit: 60 });
-        Ok(())
+/// Puts a finish at the back, if it is above `now`.
+fn keep_later(times: &mut VecDeque<u64>, now: u64, finish: u64)
+    requires { deque_len times.old < deque_capacity times.old }
+    ensures { times.new.items ≡ times.old.items ++ above now (finish ∷ []) }
+{
+    if now < finish {
+        times.push_back_reserved(finish);
     }
 }
