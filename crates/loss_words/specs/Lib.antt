@@ -1,1 +1,2 @@
+pub mod PipeWordsView
 pub mod Word

@@ -1,10 +1,12 @@
-// The numbered words by which packets are lost: one for each seed, pipe and packet.
-// It stands on the kit's rand_chacha, called through the traits of rand_core.
-// Its contracts speak of `loss_word` (specs/Word.antt).
+//! The numbered words by which packets are lost: one for each seed, pipe and place.
+//! It stands on the kit's rand_chacha, called through the traits of rand_core.
+//! Its contracts speak of `loss_word` (specs/Word.antt).
 #![tactic(auto)]
 
+mod pipe_words;
 mod words;
 
+pub use pipe_words::PipeWords;
 pub use words::Words;
 
 #[cfg(test)]

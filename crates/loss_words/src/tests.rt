@@ -1,6 +1,6 @@
-use super::Words;
+use super::{PipeWords, Words};
 
-/// (seed, pipe, packet, word), worked out by a program of its own in Python: the block function of
+/// (seed, pipe, place, word), worked out by a program of its own in Python: the block function of
 /// RFC 8439 with 8 rounds, a 64-bit counter and a 64-bit stream, which gives the published first
 /// block of ChaCha8 under a zero key (3e 00 ef 2f 89 5f 40 d6 ..).
 const VECTORS: [(u64, u32, u32, u32); 6] = [
@@ -14,13 +14,35 @@ const VECTORS: [(u64, u32, u32, u32); 6] = [
 
 #[test]
 fn words_are_those_of_another_implementation(rt: HostRuntime) {
-    for (seed, pipe, packet, word) in VECTORS {
+    for (seed, pipe, place, word) in VECTORS {
         let mut words = Words::new(seed);
         assert_eq!(rt;
-            words.word(pipe, packet),
+            words.word(pipe, place),
             word,
-            "seed {seed} pipe {pipe} packet {packet}"
+            "seed {seed} pipe {pipe} place {place}"
         );
+    }
+}
+
+#[test]
+fn the_words_of_one_pipe_are_those_of_another_implementation(rt: HostRuntime) {
+    for (seed, pipe, place, word) in VECTORS {
+        let mut words = PipeWords::new(seed, pipe);
+        assert_eq!(rt;
+            words.word(place),
+            word,
+            "seed {seed} pipe {pipe} place {place}"
+        );
+        assert_eq!(rt; words.word(place), word, "once more");
+    }
+}
+
+#[test]
+fn places_far_near_and_back_have_their_words(rt: HostRuntime) {
+    let mut one = PipeWords::new(7, 3);
+    let mut all = Words::new(7);
+    for place in [0, 1, 2, 15, 16, 40, 63, 64, 65, 128, 127, 20, 1_048_575, 0] {
+        assert_eq!(rt; one.word(place), all.word(3, place), "place {place}");
     }
 }
 
@@ -38,4 +60,5 @@ fn may_move_to_a_thread<T: Send>(_value: &T) {}
 #[test]
 fn words_may_move_to_a_thread() {
     may_move_to_a_thread(&Words::new(0));
+    may_move_to_a_thread(&PipeWords::new(0, 0));
 }
