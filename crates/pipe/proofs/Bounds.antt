@@ -7,14 +7,13 @@ use Rattle.std.proofs.Math.Nat.{mul-le-mul_right, lt_of_mul-lt-mul_right}
 use Rattle.std.proofs.lemmas.Bool.{ltb-false}
 use Rattle.std.proofs.lemmas.Nat.{mul-le}
 use Rattle.std.proofs.lemmas.Grind.{div_ceil_times}
-use Rattle.std.proofs.lemmas.List.{length_push}
 use Rattle.std.proofs.lemmas.List.Elements.{All-append, All-filter, All-weaker, All-cons, All-nil}
 use Rattle.std.proofs.lemmas.List.Kept.{IsNonDecreasingBy-filter}
 use Rattle.std.proofs.lemmas.List.Sorted.{IsNonDecreasingBy-push}
 use Rattle.mn_base.specs.Units.{transmission}
 use Rattle.pipe.specs.Finishes.{above}
 use Rattle.mn_base.specs.declared.params.PipeParams.{PipeParams}
-use Rattle.mn_base.specs.declared.limits.TheConstants.{BPS_MIN, PACKET_BYTES_MAX, QUEUE_MAX}
+use Rattle.mn_base.specs.declared.limits.TheConstants.{BPS_MIN, PACKET_BYTES_MAX, QUEUE_MAX, TIME_NS_END, TX_NS_MAX}
 use Rattle.pipe.specs.PipeView.{PipeView, params_at, greatest_queue, greatest_transmission, IsInBounds}
 use Rattle.pipe.proofs.Above.{above-above, all-above, length-above, length-above-push}
 use Rattle.pipe.proofs.Params.{greatest-last, greatest-most}
@@ -37,8 +36,7 @@ transmission-mono bps len least within = div_ceil-mono (len * 8000000000) (PACKE
 pub bounded-stays : {m : PipeView} {tick : ℕ} {params : PipeParams} {kept : List ℕ} → IsInBounds m → Drops m tick params kept
     → IsInBounds (stayed m tick kept)
 bounded-stays {m} {tick} b d = record {
-  tick_least = b.tick_least;
-  tick_most = b.tick_most;
+  tick_length = b.tick_length;
   late = subst (All (λ time. tick * m.tick_ns < time)) (sym d.kept_is) (all-above (tick * m.tick_ns) m.kept);
   rising = subst IsNonDecreasing (sym d.kept_is) (IsNonDecreasingBy-filter (λ x. x) (λ time. nat_lt (tick * m.tick_ns) time) m.kept b.rising);
   behind = subst (All (λ time. time ≤ m.last_finish)) (sym d.kept_is) (All-filter (λ time. nat_lt (tick * m.tick_ns) time) (λ time. time ≤ m.last_finish) m.kept b.behind);
@@ -67,8 +65,7 @@ module _ {m : PipeView} {tick len finish : ℕ} {params : PipeParams} {kept push
   -- one more finish
   pub bounded-passes : IsInBounds m → IsInBounds (passed m tick finish pushed)
   bounded-passes b = record {
-    tick_least = b.tick_least;
-    tick_most = b.tick_most;
+    tick_length = b.tick_length;
     late = subst (All (λ time. tick * m.tick_ns < time)) (sym p.pushed_is)
         (All-append (λ time. tick * m.tick_ns < time) kept (above (tick * m.tick_ns) (finish ∷ [])) stays.late (all-above (tick * m.tick_ns) (finish ∷ [])));
     rising = subst IsNonDecreasing (sym p.pushed_is) (rising (nat_lt (tick * m.tick_ns) finish));
@@ -104,30 +101,30 @@ module _ {m : PipeView} {tick len finish : ℕ} {params : PipeParams} {kept push
       mul-le-mul_right (greatest_transmission m) (omega (arith, counted, fewer)) in
       omega (arith, longest, near, p.finish_is)
 
--- a longest packet takes the longest at the least bandwidth
-pub transmission-least : (bps : ℕ) → BPS_MIN ≤ bps → transmission bps PACKET_BYTES_MAX ≤ transmission BPS_MIN PACKET_BYTES_MAX
+-- no packet takes longer than the longest at the least bandwidth
+pub transmission-least : (bps : ℕ) → BPS_MIN ≤ bps → transmission bps PACKET_BYTES_MAX ≤ TX_NS_MAX
 transmission-least bps least =
     let times = div_ceil_times (PACKET_BYTES_MAX * 8000000000) bps (omega arith) in
-    let less : transmission bps PACKET_BYTES_MAX * bps < (transmission BPS_MIN PACKET_BYTES_MAX + 1) * bps = omega (arith, times.1) in
-    let below : transmission bps PACKET_BYTES_MAX < transmission BPS_MIN PACKET_BYTES_MAX + 1 = lt_of_mul-lt-mul_right bps less in
+    let less : transmission bps PACKET_BYTES_MAX * bps < (TX_NS_MAX + 1) * bps = omega (arith, times.1) in
+    let below : transmission bps PACKET_BYTES_MAX < TX_NS_MAX + 1 = lt_of_mul-lt-mul_right bps less in
     omega arith
 
 -- the last finish leaves room for a transmission and a latency
 pub finish_fits : {m : PipeView} → IsInBounds m → (now : ℕ) → m.last_tick * m.tick_ns ≤ now
-    → m.last_finish ≤ now + QUEUE_MAX * transmission BPS_MIN PACKET_BYTES_MAX
+    → m.last_finish ≤ now + QUEUE_MAX * TX_NS_MAX
 finish_fits {m} b now after =
     let near = b.backlog now after in
     let queue : greatest_queue m ≤ QUEUE_MAX = greatest-most (λ (p : PipeParams). p.queue) QUEUE_MAX (λ p. p.places.1) m.first m.changes in
-    let slowest : greatest_transmission m ≤ transmission BPS_MIN PACKET_BYTES_MAX =
-    greatest-most (λ (p : PipeParams). transmission p.bps PACKET_BYTES_MAX) (transmission BPS_MIN PACKET_BYTES_MAX) (λ p. transmission-least p.bps p.bandwidth.0) m.first m.changes in
+    let slowest : greatest_transmission m ≤ TX_NS_MAX =
+    greatest-most (λ (p : PipeParams). transmission p.bps PACKET_BYTES_MAX) TX_NS_MAX (λ p. transmission-least p.bps p.bandwidth.0) m.first m.changes in
     let counted : length (above now m.kept) ≤ QUEUE_MAX = omega (arith, length-above now m.kept, b.few) in
-    omega (arith, mul-le (length (above now m.kept)) (greatest_transmission m) QUEUE_MAX (transmission BPS_MIN PACKET_BYTES_MAX) counted slowest)
+    omega (arith, mul-le (length (above now m.kept)) (greatest_transmission m) QUEUE_MAX TX_NS_MAX counted slowest)
 
 -- a start and a transmission add up within 64 bits; `now` is what contracts see of the pipe
-pub sum_fits : {m now : PipeView} {tick start tx : ℕ} → IsInBounds m → m ≡ now → now.last_tick ≤ tick → tick * now.tick_ns < 2 ^ 62
-    → start ≡ max (tick * m.tick_ns) m.last_finish → tx ≤ transmission BPS_MIN PACKET_BYTES_MAX → start + tx < 2 ^ 64
+pub sum_fits : {m now : PipeView} {tick start tx : ℕ} → IsInBounds m → m ≡ now → now.last_tick ≤ tick → tick * now.tick_ns < TIME_NS_END
+    → start ≡ max (tick * m.tick_ns) m.last_finish → tx ≤ TX_NS_MAX → start + tx < 2 ^ 64
 sum_fits {m} {now} {tick} b is order time start_is short =
     let late : m.last_tick ≤ tick = subst (λ (v : PipeView). v.last_tick ≤ tick) (sym is) order in
-    let soon : tick * m.tick_ns < 2 ^ 62 = subst (λ (v : PipeView). tick * v.tick_ns < 2 ^ 62) (sym is) time in
+    let soon : tick * m.tick_ns < TIME_NS_END = subst (λ (v : PipeView). tick * v.tick_ns < TIME_NS_END) (sym is) time in
     let near = finish_fits b (tick * m.tick_ns) (mul-le-mul_right m.tick_ns late) in
     omega arith

@@ -1,9 +1,7 @@
 -- The fields of a `Pipe` as what contracts see of it.
-use Rattle.std.specs.Prelude.{◌≡◌, ℕ, ◌<◌, ◌≤◌, drop, List, length, AllPairs}
-use Rattle.mn_base.specs.declared.params.PipeParams.{PipeParams}
+use Rattle.std.specs.Prelude.{◌≡◌, ℕ, ◌<◌, ◌≤◌, drop, length, AllPairs}
 use Rattle.pipe.specs.Params.{last_params}
 use Rattle.pipe.specs.PipeView.{PipeView, IsInBounds}
-use Rattle.pipe.specs.declared.in_force.InForce.{InForce}
 use Rattle.pipe.specs.declared.visits.Pipe.TheInside.{Inside}
 
 abbrev pub view_of : Inside → PipeView

@@ -1,8 +1,9 @@
 -- What contracts see of a pipe, and the lists of visits that it stands for.
 use Rattle.std.specs.Prelude.{◌≡◌, ℕ, ◌+◌, ◌*◌, ◌<◌, ◌≤◌, List, [], ◌∷◌, length, All}
 use Rattle.std.specs.List.Sorted.{IsNonDecreasing}
-use Rattle.mn_base.specs.declared.limits.TheConstants.{PACKET_BYTES_MAX, TICK_NS_MIN, TICK_NS_MAX}
+use Rattle.mn_base.specs.declared.limits.TheConstants.{PACKET_BYTES_MAX}
 use Rattle.mn_base.specs.declared.params.PipeParams.{PipeParams}
+use Rattle.mn_base.specs.Ranges.{IsTickLength}
 use Rattle.mn_base.specs.Units.{transmission}
 use Rattle.pipe.specs.Finishes.{PastVisit, finishes, last_finish, above}
 use Rattle.pipe.specs.Params.{last_params, greatest}
@@ -60,8 +61,7 @@ pub record StandsFor (m : PipeView) (h : List PastVisit) : Type 0 where
 
 -- true of each pipe: what it keeps is above the last tick, in order and short, and the last finish is near
 pub record IsInBounds (m : PipeView) : Type 0 where
-  pub tick_least : TICK_NS_MIN ≤ m.tick_ns
-  pub tick_most : m.tick_ns ≤ TICK_NS_MAX
+  pub tick_length : IsTickLength m.tick_ns
   pub late : All (λ time. m.last_tick * m.tick_ns < time) m.kept
   pub rising : IsNonDecreasing m.kept
   pub behind : All (λ time. time ≤ m.last_finish) m.kept

@@ -1,18 +1,16 @@
-ghost use Rattle.std.specs.Prelude.{◌≡◌, ◌≤◌};
+ghost use Rattle.std.specs.Prelude.{◌≡◌};
+ghost use Rattle.mn_base.specs.Ranges.{IsBandwidth, IsLatency, IsQueueLimit};
 
 use super::{Pipe, Step};
 use mn_base::PipeParams;
-use mn_base::limits::{
-    BPS_MAX, BPS_MIN, KEEP_MAX, LINK_LATENCY_US_MAX, QUEUE_MAX, QUEUE_MIN, TICK_NS_DEFAULT,
-};
+use mn_base::limits::{KEEP_MAX, TICK_NS_DEFAULT};
 use std::alloc::Global;
 use std::test::Fail;
 
 /// 8,000,000 bit/s, on which 1,000 bytes take 10 ticks of 100,000 ns.
 fn pipe(alloc: Global, latency_us: u64, queue: u32) -> Pipe
-    requires latency { latency_us ≤ LINK_LATENCY_US_MAX }
-    requires queue_least { QUEUE_MIN ≤ queue }
-    requires queue_most { queue ≤ QUEUE_MAX }
+    requires latency { IsLatency latency_us }
+    requires queue_limit { IsQueueLimit queue }
     ensures last_tick { result.last_tick ≡ 0 }
     ensures visits { result.visits ≡ 0 }
     ensures tick_ns { result.tick_ns ≡ TICK_NS_DEFAULT }
@@ -22,11 +20,9 @@ fn pipe(alloc: Global, latency_us: u64, queue: u32) -> Pipe
 
 /// Parameters that lose nothing.
 fn params(bps: u64, latency_us: u64, queue: u32) -> PipeParams
-    requires bps_least { BPS_MIN ≤ bps }
-    requires bps_most { bps ≤ BPS_MAX }
-    requires latency { latency_us ≤ LINK_LATENCY_US_MAX }
-    requires queue_least { QUEUE_MIN ≤ queue }
-    requires queue_most { queue ≤ QUEUE_MAX }
+    requires bandwidth { IsBandwidth bps }
+    requires latency { IsLatency latency_us }
+    requires queue_limit { IsQueueLimit queue }
 {
     PipeParams::new(bps, latency_us, queue, KEEP_MAX, TICK_NS_DEFAULT)
 }

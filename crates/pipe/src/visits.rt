@@ -1,14 +1,15 @@
-ghost use Rattle.std.specs.Prelude.{◌≡◌, ℕ, ◌+◌, ◌*◌, ◌^◌, ◌<◌, ◌≤◌, ◌∷◌, ◌++◌, List, [], length, All, AllPairs, IfOk, OnOk, OnErr};
+ghost use Rattle.std.specs.Prelude.{◌≡◌, ℕ, ◌+◌, ◌*◌, ◌<◌, ◌≤◌, ◌∷◌, ◌++◌, List, [], length, All, AllPairs, IfOk, OnOk, OnErr};
 ghost use Rattle.std.specs.List.Sorted.{IsNonDecreasing};
 ghost use Rattle.std.specs.VecDeque.{deque_len, deque_capacity};
 ghost use Rattle.std.specs.Int.{div_ceil};
+ghost use Rattle.mn_base.specs.Ranges.{IsTickLength};
+ghost use Rattle.mn_base.specs.declared.limits.TheConstants.{PACKET_BYTES_MAX, PACKETS_MAX, TIME_NS_END};
 ghost use Rattle.pipe.specs.Finishes.{PastVisit, above};
 ghost use Rattle.pipe.specs.Steps.{step_at, visited, IfPass};
 ghost use Rattle.pipe.specs.PipeView.{StandsFor, params_at, idle_view, greatest_queue, greatest_transmission};
 
 use crate::in_force::{InForce, in_force_at};
 use crate::step::Step;
-use mn_base::limits::{PACKET_BYTES_MAX, PACKETS_MAX, TICK_NS_MAX, TICK_NS_MIN};
 use mn_base::{NoMemory, PipeParams, tx_ns};
 use std::alloc::Global;
 use std::collections::VecDeque;
@@ -46,8 +47,7 @@ impl Model for Pipe {
 impl Pipe {
     /// A pipe without visits whose parameters never change, for ticks of `tick_ns` ns.
     pub fn new(alloc: Global, params: PipeParams, tick_ns: u64) -> Pipe
-        requires tick_least { TICK_NS_MIN ≤ tick_ns }
-        requires tick_most { tick_ns ≤ TICK_NS_MAX }
+        requires { IsTickLength tick_ns }
         ensures idle { result ≡ idle_view params [] tick_ns }
         ensures stands { StandsFor result [] }
     {
@@ -62,8 +62,7 @@ impl Pipe {
         changes: Vec<(u64, PipeParams)>,
         tick_ns: u64,
     ) -> Pipe
-        requires tick_least { TICK_NS_MIN ≤ tick_ns }
-        requires tick_most { tick_ns ≤ TICK_NS_MAX }
+        requires tick { IsTickLength tick_ns }
         requires rising { AllPairs (λ c d. c.0 < d.0) changes.items }
         ensures idle { result ≡ idle_view first changes.items tick_ns }
         ensures stands { StandsFor result [] }
@@ -97,7 +96,7 @@ impl Pipe {
     /// it transmits for 10 ticks. `NoMemory` leaves the pipe as it was.
     pub fn visit(&mut self, tick: u64, len: u32, lost: bool) -> Result<Step, NoMemory>
         requires order { self.old.last_tick ≤ tick }
-        requires time { tick * self.old.tick_ns < 2 ^ 62 }
+        requires time { tick * self.old.tick_ns < TIME_NS_END }
         requires len { len ≤ PACKET_BYTES_MAX }
         requires few { self.old.visits < PACKETS_MAX }
 
