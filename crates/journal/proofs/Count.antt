@@ -3,19 +3,22 @@ use Rattle.std.proofs.Common.{◌≡◌, ◌⊎◌, inl, inr, ℕ, ◌+◌, ◌-
 use Rattle.std.proofs.lemmas.Bool.{cases_order}
 use Rattle.std.proofs.lemmas.List.Sums.{sum_by-cons, sum_by-le-sum_by}
 use Rattle.mn_base.specs.Among.{Among}
+use Rattle.pipe.specs.declared.due.Due.{Due}
+use Rattle.pipe.specs.Dues.{Before}
+use Rattle.pipe.specs.Scheme.{Rises}
 use Rattle.journal.specs.declared.setup.PacketPlan.{PacketPlan}
 use Rattle.journal.specs.declared.visit.Visit.{Visit}
 use Rattle.journal.specs.SetupView.{SetupView, route_of}
 use Rattle.journal.specs.IsSetup.{IsSetup}
-use Rattle.journal.specs.Dues.{Due, Before, due_of}
-use Rattle.journal.specs.IsJournal.{Rises}
+use Rattle.journal.specs.Hops.{due_of}
+use Rattle.journal.specs.IsJournal.{scheme_of}
 use Rattle.journal.specs.Journal.{hop_count}
 use Rattle.mn_base.proofs.Members.{Among-from-filter}
-use Rattle.journal.proofs.Order.{before-irreflexive, before-tick}
-use Rattle.journal.proofs.Delays.{Origin, origin}
-use Rattle.journal.proofs.Growing.{IsGrowing, IsEarlier, one_visit, earlier, apart}
+use Rattle.pipe.proofs.CanonicalOrder.{before-irreflexive, before-tick}
+use Rattle.pipe.proofs.Growing.{IsEarlierBy, one_visit, earlier, apart}
+use Rattle.journal.proofs.Orderly.{IsGrowing, Origin, origin, orderly}
 
-abbrev of_packet : ℕ → List Visit → List Visit
+abbrev pub of_packet : ℕ → List Visit → List Visit
 of_packet n J = filter (λ v. v.packet == n) J
 
 -- each visit is to an earlier hop than those behind it
@@ -51,7 +54,9 @@ length-of_packet v J n = go (v.packet == n)
     go false = omega arith
 
 -- a list of visits of these packets has no more visits than the packets have, each counted by itself
-length-by_packet : (P : List PacketPlan) (J : List Visit) → ((v : Visit) → Among v J → (p : PacketPlan) × Among p P × (p.number ≡ v.packet)) → length J ≤ sum_by (λ p. length (of_packet p.number J)) P
+pub length-by_packet : (P : List PacketPlan) (J : List Visit)
+    → ((v : Visit) → Among v J → (p : PacketPlan) × Among p P × (p.number ≡ v.packet))
+    → length J ≤ sum_by (λ p. length (of_packet p.number J)) P
 length-by_packet P [] all = omega arith
 length-by_packet P (v ∷ J) all =
     let here = all v (inl refl) in
@@ -73,14 +78,14 @@ module _ (S : SetupView) (is : IsSetup S) (J : List Visit) (g : IsGrowing S J) w
   hop-rises v w a b before p = go (cases_order v.hop w.hop)
     where
       go : (v.hop ≡ w.hop) ⊎ ((v.hop < w.hop) ⊎ (w.hop < v.hop)) → v.hop < w.hop
-      go (inl e) = absurd (before-irreflexive (due_of w) (subst (λ (u : Visit). Before (due_of u) (due_of w)) (one_visit S is J g v w a b p e) before))
+      go (inl e) = absurd (before-irreflexive (due_of w) (subst (λ (u : Visit). Before (due_of u) (due_of w)) (one_visit (scheme_of S) (orderly S is) J g v w a b p e) before))
       go (inr (inl l)) = l
       go (inr (inr l)) =
-          let later : w.tick < v.tick = apart S is J g w (due_of v) b (g.sound v a) (sym p) l in
+          let later : w.tick < v.tick = apart (scheme_of S) (orderly S is) J g w (due_of v) b (g.sound v a) (sym p) l in
           let order : v.tick ≤ w.tick = before-tick (due_of v) (due_of w) before in
           absurd (omega (arith, later, order))
 
-  hops_rise : (n : ℕ) (rest : List Visit) → Rises rest → ((v : Visit) → Among v rest → Among v J) → HopsRise (of_packet n rest)
+  hops_rise : (n : ℕ) (rest : List Visit) → Rises (scheme_of S) rest → ((v : Visit) → Among v rest → Among v J) → HopsRise (of_packet n rest)
   hops_rise n [] r all = tt
   hops_rise n (v ∷ rest) r all = go (v.packet == n) refl (hops_rise n rest r.1 (λ w h. all w (inr h)))
     where
@@ -103,21 +108,21 @@ module _ (S : SetupView) (is : IsSetup S) (J : List Visit) (g : IsGrowing S J) w
           let within : 0 < length (route_of S v.packet) = subst (λ (n : ℕ). 0 < length (route_of S n)) (sym (ap (λ (d : Due). d.packet) m.1.is)) m.1.within in
           omega (arith, hop, within)
       go (inr m) =
-          let hop : v.hop ≡ m.0.hop + 1 = ap (λ (d : Due). d.hop) m.1.is in
-          let within : m.0.hop + 1 < length (route_of S v.packet) = subst (λ (n : ℕ). m.0.hop + 1 < length (route_of S n)) (sym (ap (λ (d : Due). d.packet) m.1.is)) m.1.within in
+          let hop : v.hop ≡ m.0.hop + 1 = ap (λ (d : Due). d.hop) m.2.is in
+          let within : m.0.hop + 1 < length (route_of S v.packet) = subst (λ (n : ℕ). m.0.hop + 1 < length (route_of S n)) (sym (ap (λ (d : Due). d.packet) m.2.is)) m.2.within in
           omega (arith, hop, within)
 
   -- and its packet is one of the setup's
   pub packet-of_visit : (v : Visit) → Among v J → (p : PacketPlan) × Among p S.packets × (p.number ≡ v.packet)
-  packet-of_visit v a = go (earlier S is J g 0 v a (omega arith))
+  packet-of_visit v a = go (earlier (scheme_of S) (orderly S is) J g 0 v a (omega arith))
     where
-      go : IsEarlier J v 0 → (p : PacketPlan) × Among p S.packets × (p.number ≡ v.packet)
+      go : IsEarlierBy (scheme_of S) J v 0 → (p : PacketPlan) × Among p S.packets × (p.number ≡ v.packet)
       go e = place (origin S J (due_of e.visit) (g.sound e.visit e.among))
         where
           place : Origin S J (due_of e.visit) → (p : PacketPlan) × Among p S.packets × (p.number ≡ v.packet)
           place (inl m) = (m.0, m.1.among, sym (ap (λ (d : Due). d.packet) m.1.is) ∙ e.packet)
           place (inr m) =
-              let hop : e.visit.hop ≡ m.0.hop + 1 = ap (λ (d : Due). d.hop) m.1.is in
+              let hop : e.visit.hop ≡ m.0.hop + 1 = ap (λ (d : Due). d.hop) m.2.is in
               let zero_hop : e.visit.hop ≡ 0 = e.at in
               absurd (omega (arith, hop, zero_hop))
 

@@ -4,42 +4,44 @@ use Rattle.std.proofs.lemmas.Bool.{cases_order, false_from_ne_true}
 use Rattle.std.proofs.lemmas.List.{append_assoc}
 use Rattle.std.specs.Option.{option_map_or}
 use Rattle.mn_base.specs.Among.{Among}
+use Rattle.pipe.specs.declared.due.Due.{Due}
+use Rattle.pipe.specs.Dues.{Before}
+use Rattle.pipe.specs.Scheme.{Rises}
 use Rattle.journal.specs.declared.setup.PacketPlan.{PacketPlan}
 use Rattle.journal.specs.declared.visit.Visit.{Visit}
 use Rattle.journal.specs.declared.fate.Fate.TheVariants.{Left}
 use Rattle.journal.specs.SetupView.{SetupView, route_of}
 use Rattle.journal.specs.IsSetup.{IsSetup}
-use Rattle.journal.specs.Dues.{Due, Before, due_of, next_hop, dues}
-use Rattle.journal.specs.IsJournal.{Rises}
+use Rattle.journal.specs.Hops.{due_of, next_hop}
+use Rattle.journal.specs.IsJournal.{scheme_of, dues}
 use Rattle.journal.specs.Journal.{journal_of}
-use Rattle.journal.specs.Fates.{fate_at, last_visit}
-use Rattle.journal.specs.Laws.{EndsWay, WaysEnd, FatesHold, VisitsRise, HopsDiffer, HopsAreLater}
+use Rattle.journal.specs.Fates.{fate_of_visit, last_visit}
+use Rattle.journal.specs.Laws.{EndsWay, WaysEnd, FatesHold, VisitsRise, HopsDiffer, HopsAreLater, HopsWait}
 use Rattle.mn_base.proofs.Members.{Among-place, find-none, find-behind, reverse-split, Among-reverse, Among-from-map, SplitAt, split_at, Among-append-right}
-use Rattle.journal.proofs.Order.{rises-across}
-use Rattle.journal.proofs.Delays.{next_parts, due_from-entry, due_from-next}
-use Rattle.journal.proofs.Growing.{IsGrowing, one_visit, earlier, apart, follows}
+use Rattle.pipe.proofs.Origins.{rises-across, rises-pairs, due_from-first, due_from-visit}
+use Rattle.pipe.proofs.Growing.{one_visit, earlier, apart, follows}
+use Rattle.journal.proofs.Delays.{next_parts}
+use Rattle.journal.proofs.Orderly.{IsGrowing, orderly, tick-pos, first-due, next-latency}
 use Rattle.journal.proofs.Count.{hop-rises, hop-within}
 use Rattle.journal.proofs.Meets.{meets, journal-grows}
-
--- a rising list rises between any two places
-rises-pairs : (J : List Visit) → Rises J → AllPairs (λ v w. Before (due_of v) (due_of w)) J
-rises-pairs [] r i j d l m = absurd (omega arith)
-rises-pairs (v ∷ J) r i zero d l m = absurd (omega arith)
-rises-pairs (v ∷ J) r zero (suc j) d l m = r.0 (slice_index_or J j d) (Among-place J j d (omega arith))
-rises-pairs (v ∷ J) r (suc i) (suc j) d l m = rises-pairs J r.1 i j d (omega arith) (omega arith)
 
 module _ (S : SetupView) (is : IsSetup S) where
   grows : IsGrowing S (journal_of S)
   grows = journal-grows S is
 
   pub visits_rise : VisitsRise S
-  visits_rise = rises-pairs (journal_of S) (meets S is).rises
+  visits_rise = rises-pairs (scheme_of S) (journal_of S) (meets S is).rises
 
   pub hops_differ : HopsDiffer S
-  hops_differ v w h k p e = one_visit S is (journal_of S) grows v w h k p e
+  hops_differ v w h k p e = one_visit (scheme_of S) (orderly S is) (journal_of S) grows v w h k p e
 
   pub hops_are_later : HopsAreLater S
-  hops_are_later v w h k p l = apart S is (journal_of S) grows v (due_of w) h (grows.sound w k) p l
+  hops_are_later v w h k p l = apart (scheme_of S) (orderly S is) (journal_of S) grows v (due_of w) h (grows.sound w k) p l
+
+  pub hops_wait : HopsWait S
+  hops_wait v w h k p l =
+      let e : next_hop S v ≡ Some (due_of w) = follows (scheme_of S) (orderly S is) (journal_of S) grows v w h k p l in
+      next-latency S (journal_of S) v (due_of w) (tick-pos S is) grows.made h (next_parts S v (due_of w) e)
 
   -- what is due is visited
   visited : (x : Due) → Among x (dues S (journal_of S)) → (v : Visit) × Among v (journal_of S) × (due_of v ≡ x)
@@ -48,8 +50,8 @@ module _ (S : SetupView) (is : IsSetup S) where
   -- behind the visit that ends a packet's way no hop is visited
   none_behind : (v w : Visit) → Among v (journal_of S) → next_hop S v ≡ None → Among w (journal_of S) → w.packet ≡ v.packet → v.hop < w.hop → ⊥
   none_behind v w a last b p l =
-      let e = earlier S is (journal_of S) grows (v.hop + 1) w b (omega arith) in
-      let next : next_hop S v ≡ Some (due_of e.visit) = follows S is (journal_of S) grows v e.visit a e.among (sym p ∙ sym e.packet) e.at in
+      let e = earlier (scheme_of S) (orderly S is) (journal_of S) grows (v.hop + 1) w b (omega arith) in
+      let next : next_hop S v ≡ Some (due_of e.visit) = follows (scheme_of S) (orderly S is) (journal_of S) grows v e.visit a e.among (sym p ∙ sym e.packet) e.at in
       let clash : None ≡ Some (due_of e.visit) = sym last ∙ next in
       cc
 
@@ -60,7 +62,7 @@ module _ (S : SetupView) (is : IsSetup S) where
       same = f.packet ∙ sym e.packet
 
       go : (v.hop ≡ w.hop) ⊎ ((v.hop < w.hop) ⊎ (w.hop < v.hop)) → w ≡ v
-      go (inl h) = one_visit S is (journal_of S) grows w v f.among e.among same (sym h)
+      go (inl h) = one_visit (scheme_of S) (orderly S is) (journal_of S) grows w v f.among e.among same (sym h)
       go (inr (inl l)) = absurd (none_behind v w e.among e.last f.among same l)
       go (inr (inr l)) = absurd (none_behind w v f.among f.last e.among (sym same) l)
 
@@ -74,8 +76,8 @@ module _ (S : SetupView) (is : IsSetup S) where
       go : (o : Option Due) → next_hop S v ≡ o → ((u : Visit) → Among u (journal_of S) → u.packet ≡ p.number → length (route_of S u.packet) ≤ n + u.hop → (w : Visit) × EndsWay S p w) → (w : Visit) × EndsWay S p w
       go None e rest = (v, record { among = a; packet = q; last = e })
       go (Some x) e rest =
-          let i = next_parts S (journal_of S) v x a e in
-          let u = visited x (due_from-next S (journal_of S) v x i) in
+          let i = next_parts S v x e in
+          let u = visited x (due_from-visit (scheme_of S) (journal_of S) v x a e) in
           let packet : u.0.packet ≡ v.packet = ap (λ (d : Due). d.packet) u.2 ∙ ap (λ (d : Due). d.packet) i.is in
           let hop : u.0.hop ≡ v.hop + 1 = ap (λ (d : Due). d.hop) u.2 ∙ ap (λ (d : Due). d.hop) i.is in
           let long : length (route_of S u.0.packet) ≡ length (route_of S v.packet) = ap (λ (m : ℕ). length (route_of S m)) packet in
@@ -84,7 +86,7 @@ module _ (S : SetupView) (is : IsSetup S) where
   pub ways_end : WaysEnd S
   ways_end p a within =
       let first : Due = record { tick = p.entry_tick; packet = p.number; hop = 0 } in
-      let v = visited first (due_from-entry S (journal_of S) p first (record { among = a; is = refl; within = within })) in
+      let v = visited first (due_from-first (scheme_of S) (journal_of S) first (first-due S p first (record { among = a; is = refl; within = within }))) in
       let e = end_from (length (route_of S v.0.packet)) p v.0 v.1 (ap (λ (d : Due). d.packet) v.2) (omega arith) in
       (e.0, e.1, λ w f. one_end p e.0 w e.1 f)
 
@@ -105,11 +107,11 @@ module _ (S : SetupView) (is : IsSetup S) where
           here : Among u (journal_of S)
           here = subst (Among u) (sym s.is) (Among-append-right u s.front (v ∷ s.rest) (inr behind))
 
-          rises : Rises (s.front ++ v ∷ [] ++ s.rest)
-          rises = subst Rises (s.is ∙ sym (append_assoc s.front (v ∷ []) s.rest)) (meets S is).rises
+          rises : Rises (scheme_of S) (s.front ++ v ∷ [] ++ s.rest)
+          rises = subst (Rises (scheme_of S)) (s.is ∙ sym (append_assoc s.front (v ∷ []) s.rest)) (meets S is).rises
 
           before : Before (due_of v) (due_of u)
-          before = rises-across (s.front ++ v ∷ []) s.rest v u rises (Among-append-right v s.front (v ∷ []) (inl refl)) behind
+          before = rises-across (scheme_of S) (s.front ++ v ∷ []) s.rest v u rises (Among-append-right v s.front (v ∷ []) (inl refl)) behind
 
           clash : (u.packet == p.number) ≡ true → ⊥
           clash t =
@@ -130,6 +132,6 @@ module _ (S : SetupView) (is : IsSetup S) where
 
   pub fates_hold : FatesHold S
   fates_hold = record {
-    at_once = λ p e. ap (λ (o : Option Visit). option_map_or fate_at o (Left p.entry_tick)) (no_visit p e);
-    by_end = λ p v e. ap (λ (o : Option Visit). option_map_or fate_at o (Left p.entry_tick)) (end-last p v e);
+    at_once = λ p e. ap (λ (o : Option Visit). option_map_or fate_of_visit o (Left p.entry_tick)) (no_visit p e);
+    by_end = λ p v e. ap (λ (o : Option Visit). option_map_or fate_of_visit o (Left p.entry_tick)) (end-last p v e);
   }

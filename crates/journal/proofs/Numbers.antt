@@ -8,7 +8,7 @@ use Rattle.journal.specs.declared.setup.PacketPlan.{PacketPlan}
 use Rattle.journal.specs.SetupView.{SetupView, packet_of}
 use Rattle.journal.specs.IsSetup.{IsSetup}
 use Rattle.mn_base.proofs.Members.{Among-find, find-some, find-none, Among-place, PlaceOf, place_of}
-use Rattle.journal.proofs.Growing.{one_packet}
+use Rattle.journal.proofs.Orderly.{one_packet}
 
 pub numbers-order : (S : SetupView) → IsSetup S → IsNonDecreasingBy (λ p. p.number) S.packets
 numbers-order S is i j d le within = go (cases_order i j)

@@ -3,6 +3,7 @@ use Rattle.std.proofs.Common.{◌≡◌, inl, inr, ℕ, zero, suc, ◌<◌, ◌�
 use Rattle.std.specs.Option.{option_map_or}
 use Rattle.std.proofs.lemmas.List.{get_or-map, length-map}
 use Rattle.mn_base.specs.Among.{Among}
+use Rattle.mn_base.specs.declared.limits.TheConstants.{ROUTE_PIPES_MAX, PACKET_BYTES_MAX}
 use Rattle.journal.specs.declared.setup.PacketPlan.{PacketPlan}
 use Rattle.journal.specs.SetupView.{SetupView, packet_of, route_of}
 use Rattle.journal.specs.IsSetup.{IsSetup}
@@ -22,7 +23,7 @@ packet-known S is p a = sym (found S is p p.number a refl)
 pub record HasRoute (S : SetupView) (p : PacketPlan) (route : List ℕ) : Type 0 where
   pub is : route ≡ route_of S p.number
   pub within : p.route < length S.routes
-  pub short : length route ≤ 255
+  pub short : length route ≤ ROUTE_PIPES_MAX
   pub named : All (λ pipe. pipe < length S.pipes) route
 
 pub packet-route : (S : SetupView) → IsSetup S → (p : PacketPlan) → packet_of S p.number ≡ Some p → HasRoute S p (slice_index_or S.routes p.route [])
@@ -36,10 +37,10 @@ packet-route S is p known =
       named = is.routes_named p.route [] within;
     }
 
-pub packet-short : (S : SetupView) → IsSetup S → (p : PacketPlan) → packet_of S p.number ≡ Some p → p.len ≤ 262144
+pub packet-short : (S : SetupView) → IsSetup S → (p : PacketPlan) → packet_of S p.number ≡ Some p → p.len ≤ PACKET_BYTES_MAX
 packet-short S is p known =
     let member = Among-find (λ (q : PacketPlan). q.number == p.number) p S.packets known in
-    All-Among (λ (q : PacketPlan). q.len ≤ 262144) p S.packets is.lens_most member.0
+    All-Among (λ (q : PacketPlan). q.len ≤ PACKET_BYTES_MAX) p S.packets is.lens_most member.0
 
 -- the same, read out of a list whose elements hold the routes
 pub route-read : {X : Type 0} (items : X → List ℕ) (xs : List X) (S : SetupView) → IsSetup S → (p : PacketPlan) → packet_of S p.number ≡ Some p

@@ -1,4 +1,4 @@
--- How long one pipe may keep a packet, from the outcome alone.
+-- How long one pipe may keep a packet, from the steps alone.
 use Rattle.std.proofs.Common.{◌≡◌, inl, inr, ℕ, ◌+◌, ◌*◌, ◌<◌, ◌≤◌, Bool, true, false, cond, nat_lt, List, [], ◌∷◌, length, refl, ap, arith, ltb-false}
 use Rattle.std.specs.Int.{div_ceil}
 use Rattle.std.proofs.Math.Nat.{mul-le-mul_right}
@@ -7,19 +7,19 @@ use Rattle.mn_base.specs.Among.{Among}
 use Rattle.mn_base.specs.declared.params.PipeParams.{PipeParams}
 use Rattle.mn_base.specs.Units.{transmission}
 use Rattle.pipe.specs.declared.step.Step.TheVariants.{Pass}
-use Rattle.pipe.specs.Finishes.{Arrival, has_passed, finish_of, finishes, last_finish, above}
-use Rattle.pipe.specs.Outcome.{waiting, outcome}
+use Rattle.pipe.specs.Finishes.{PastVisit, has_passed, finish_of, finishes, last_finish, above}
+use Rattle.pipe.specs.Steps.{waiting, step_at}
 use Rattle.journal.proofs.Delays.{pass_parts}
 
 -- a visit that came by the moment x, of a packet that transmits for at most `longest`
-pub record IsUsual (at : ℕ → PipeParams) (T x longest : ℕ) (v : Arrival) : Type 0 where
+pub record IsUsual (at : ℕ → PipeParams) (T x longest : ℕ) (v : PastVisit) : Type 0 where
   pub by : v.tick * T ≤ x
   pub short : transmission (at v.tick).bps v.len ≤ longest
 
 module _ (at : ℕ → PipeParams) (T x longest : ℕ) where
   -- at x the last finish is no further off than those that are above x take; c more are above it from before
-  last_finish-near_from : (c last : ℕ) (h : List Arrival) → last ≤ x + c * longest
-      → ((v : Arrival) → Among v h → IsUsual at T x longest v)
+  last_finish-near_from : (c last : ℕ) (h : List PastVisit) → last ≤ x + c * longest
+      → ((v : PastVisit) → Among v h → IsUsual at T x longest v)
       → last_finish at T last h ≤ x + (c + length (above x (finishes at T last h))) * longest
   last_finish-near_from c last [] near usual = omega arith
   last_finish-near_from c last (v ∷ h) near usual =
@@ -47,23 +47,25 @@ module _ (at : ℕ → PipeParams) (T x longest : ℕ) where
       go true false is rest =
           rw is (let early : f ≤ x = ltb-false x f is in rest c f (omega arith))
 
-  pub last_finish-near : (h : List Arrival) → ((v : Arrival) → Among v h → IsUsual at T x longest v)
+  pub last_finish-near : (h : List PastVisit) → ((v : PastVisit) → Among v h → IsUsual at T x longest v)
       → last_finish at T 0 h ≤ x + length (above x (finishes at T 0 h)) * longest
   last_finish-near h usual = let near = last_finish-near_from 0 0 h (omega arith) usual in omega (arith, near)
 
--- a packet that passes leaves within its latency, two ticks of rounding and a full queue
-pub pass-stay : (at : ℕ → PipeParams) (T longest : ℕ) (h : List Arrival) (tick len : ℕ) (lost : Bool) (exit : ℕ) → 0 < T
-    → ((v : Arrival) → Among v h → IsUsual at T (tick * T) longest v) → transmission (at tick).bps len ≤ longest
-    → outcome at T h tick len lost ≡ Pass exit
-    → exit * T ≤ tick * T + ((at tick).latency_ticks + 2) * T + (at tick).queue * longest
-pass-stay at T longest h tick len lost exit positive usual short passes =
+-- a packet that passes leaves within its latency, two ticks of rounding and a full queue; each may be taken greater
+pub pass-stay : (at : ℕ → PipeParams) (T latency places longest : ℕ) (h : List PastVisit) (tick len : ℕ) (lost : Bool) (exit : ℕ) → 0 < T
+    → (at tick).latency_ticks ≤ latency → (at tick).queue ≤ places
+    → ((v : PastVisit) → Among v h → IsUsual at T (tick * T) longest v) → transmission (at tick).bps len ≤ longest
+    → step_at at T h tick len lost ≡ Pass exit
+    → exit * T ≤ tick * T + (latency + 2) * T + places * longest
+pass-stay at T latency places longest h tick len lost exit positive slow wide usual short passes =
     let p = pass_parts at T h tick len lost exit passes in
     let room : waiting at T h tick < (at tick).queue = p.room in
     let near : last_finish at T 0 h ≤ tick * T + waiting at T h tick * longest = last_finish-near at T (tick * T) longest h usual in
     let f : ℕ = finish_of at T (last_finish at T 0 h) tick len in
-    let places : (waiting at T h tick + 1) * longest ≤ (at tick).queue * longest = mul-le-mul_right longest (omega arith) in
-    let finish : f ≤ tick * T + (at tick).queue * longest = omega arith in
+    let full : (waiting at T h tick + 1) * longest ≤ places * longest = mul-le-mul_right longest (omega arith) in
+    let finish : f ≤ tick * T + places * longest = omega arith in
     let rounded : div_ceil f T * T < f + T = (div_ceil_times f T positive).1 in
     let leaves : exit ≡ div_ceil f T + (at tick).latency_ticks = p.leaves in
     let whole : exit * T ≡ (div_ceil f T + (at tick).latency_ticks) * T = ap (λ e. e * T) leaves in
+    let delay : (at tick).latency_ticks * T ≤ latency * T = mul-le-mul_right T slow in
     omega arith

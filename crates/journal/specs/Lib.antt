@@ -1,10 +1,12 @@
-pub mod Dues
 pub mod Entries
 pub mod Fates
+pub mod Held
+pub mod Hops
 pub mod IsJournal
+pub mod IsPipe
 pub mod IsSetup
 pub mod Journal
 pub mod Laws
-pub mod Queue
+pub mod LazyWords
 pub mod SetupView
-pub mod Standing
+pub mod Steps

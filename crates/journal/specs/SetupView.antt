@@ -1,9 +1,12 @@
 -- What contracts see of a setup, the record of its lists, and what a visit reads of it.
-use Rattle.std.specs.Prelude.{ℕ, ◌==◌, List, [], Option, find, slice_get, slice_index_or, unwrap_or}
+use Rattle.std.specs.Prelude.{ℕ, ◌==◌, List, [], Option, filter, map, find, slice_get, slice_index_or, unwrap_or}
 use Rattle.std.specs.Option.{option_map_or}
 use Rattle.std.proofs.Common.{lit≤}
 use Rattle.mn_base.specs.declared.params.PipeParams.{PipeParams}
+use Rattle.pipe.specs.Params.{last_params}
 use Rattle.journal.specs.declared.setup.PacketPlan.{PacketPlan}
+use Rattle.journal.specs.declared.setup.PipeChange.{PipeChange}
+use Rattle.journal.specs.declared.setup.LossBy.{LossBy}
 
 pub record SetupView : Type 0 where
   pub tick_ns : ℕ
@@ -15,6 +18,8 @@ pub record SetupView : Type 0 where
   pub owners : List ℕ
   pub routes : List (List ℕ)
   pub packets : List PacketPlan
+  pub changes : List PipeChange
+  pub loss : LossBy
 
 -- the packet of a number, if the setup has it
 abbrev pub packet_of : SetupView → ℕ → Option PacketPlan
@@ -43,6 +48,14 @@ no_params = record {
   keeps = lit≤ tt;
 }
 
--- the parameters of a pipe at a tick; they are the same at each
+-- the parameters of a pipe before any change
+abbrev pub first_params : SetupView → ℕ → PipeParams
+first_params S pipe = unwrap_or (slice_get S.pipes pipe) no_params
+
+-- the changes of a pipe, each with its tick, in order
+abbrev pub changes_of : SetupView → ℕ → List (ℕ × PipeParams)
+changes_of S pipe = map (λ c. (c.tick, c.params)) (filter (λ c. c.pipe == pipe) S.changes)
+
+-- the parameters of a pipe at a tick: those of its last change by that tick, or the first where there is none
 abbrev pub params_of : SetupView → ℕ → ℕ → PipeParams
-params_of S pipe tick = unwrap_or (slice_get S.pipes pipe) no_params
+params_of S pipe tick = last_params tick (first_params S pipe) (changes_of S pipe)

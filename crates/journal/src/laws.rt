@@ -2,7 +2,7 @@
 
 ghost use Rattle.journal.specs.IsJournal.{IsJournal};
 ghost use Rattle.journal.specs.Journal.{journal_of};
-ghost use Rattle.journal.specs.Laws.{HasOneJournal, VisitsRise, HopsDiffer, HopsAreLater, WaysEnd, FatesHold, VisitsAreFew, TimesFit, OutputsFit, UsualDelaysFit};
+ghost use Rattle.journal.specs.Laws.{HasOneJournal, VisitsRise, HopsDiffer, HopsAreLater, WaysEnd, FatesHold, VisitsAreFew, TimesFit, OutputsFit, UsualDelaysFit, HopsWait, GrowsToJournal, CoresDoNotMatter, ArrivalBlind};
 
 use crate::Setup;
 
@@ -41,6 +41,20 @@ pub fn hops_are_later(setup: &Setup)
     let _parts = setup.parts();
 }
 
+/// The next hop of a packet is later by at least the latency that the pipe has at the tick of the visit.
+pub fn hops_wait(setup: &Setup)
+    ensures { HopsWait setup.now }
+{
+    let _parts = setup.parts();
+}
+
+/// A list that grows into the journal, visit by visit, is a front of it.
+pub fn grows_to_journal(setup: &Setup)
+    ensures { GrowsToJournal setup.now }
+{
+    let _parts = setup.parts();
+}
+
 /// Each packet with a nonempty route has exactly one visit that ends its way.
 pub fn ways_end(setup: &Setup)
     ensures { WaysEnd setup.now }
@@ -62,7 +76,7 @@ pub fn visits_are_few(setup: &Setup)
     let _parts = setup.parts();
 }
 
-/// Every time since the base in the journal is below 2^62 ns.
+/// Every time since the base in the journal is below `TIME_NS_END`, which is 2^62 ns.
 pub fn times_fit(setup: &Setup)
     ensures { TimesFit setup.now }
 {
@@ -75,6 +89,17 @@ pub fn outputs_fit(setup: &Setup)
 {
     let _parts = setup.parts();
 }
+
+/// Setups that differ in cores, owners and entry cores alone have one journal and the same fates.
+pub fn cores_do_not_matter()
+    ensures { CoresDoNotMatter }
+{}
+
+/// By arrival, lists of visits to one pipe with equal ticks and lengths have equal steps, whatever the numbers of their packets
+/// are.
+pub fn arrival_blind()
+    ensures { ArrivalBlind }
+{}
 
 /// Pipes whose latency in ticks is that of their microseconds meet the condition of a setup on delays, on each route of at most
 /// 255 of them.

@@ -1,21 +1,22 @@
-// Setups, the one list of all visits of their packets to pipes (the journal), and what becomes of each packet.
-// It stands on pipe, loss_words and mn_base.
-// Its contracts speak of `IsJournal` (specs/IsJournal.antt), `journal_of` (specs/Journal.antt) and `fate_of` (specs/Fates.antt).
+//! Setups, the one list of all visits of their packets to pipes (the journal), and what becomes of each packet.
+//!
+//! It stands on pipe, loss_words and mn_base. Its contracts speak of `IsJournal` (specs/IsJournal.antt), `journal_of`
+//! (specs/Journal.antt) and `fate_of` (specs/Fates.antt).
 #![tactic(auto)]
 
-mod due;
+mod due_visits;
 mod fate;
 pub mod laws;
+mod lazy_words;
 mod maker;
 mod packet_fates;
 mod setup;
+mod setup_pipe;
+pub mod steps;
 mod visit;
 
 pub use fate::Fate;
 pub use maker::journal;
 pub use packet_fates::fates;
-pub use setup::{PacketPlan, Setup, SetupParts};
+pub use setup::{LossBy, PacketPlan, PipeChange, Setup, SetupParts};
 pub use visit::Visit;
-
-#[cfg(test)]
-mod tests;

@@ -1,46 +1,47 @@
-ghost use Rattle.std.specs.Prelude.{◌≡◌, ℕ, map, unwrap_or, IfOk};
-ghost use Rattle.std.specs.Option.{option_map};
-ghost use Rattle.std.specs.Ordering.{nat_cmp};
-ghost use Rattle.std.specs.BTreeMap as tree;
-ghost use Rattle.journal.specs.declared.fate.Fate.TheVariants.{Left};
-ghost use Rattle.journal.specs.Fates.{fate_at, fate_of, last_visit};
+ghost use Rattle.std.specs.Prelude.{◌≡◌, [], map, IfOk};
+ghost use Rattle.journal.specs.Fates.{fate_after, fate_of, fate_of_visit};
 
 use crate::fate::Fate;
-use crate::maker::{journal, packet_at};
-use crate::setup::{PacketPlan, Setup};
+use crate::maker::Maker;
+use crate::setup::Setup;
 use crate::visit::Visit;
 use mn_base::{Cause, NoMemory};
 use pipe::Step;
 use std::alloc::Global;
-use std::collections::BTreeMap;
 
 /// What becomes of each packet of a setup, in the setup's order: it leaves at a tick, or one pipe drops it.
+///
+/// It makes each visit of the journal and keeps none of them.
 pub fn fates(alloc: Global, setup: &Setup) -> Result<Vec<Fate>, NoMemory>
     ensures { IfOk result (λ fates. fates.items ≡ map (fate_of setup.now) setup.now.packets) }
 {
-    let visits = journal(alloc, setup)?;
-    let ends = last_fates(alloc, &visits)?;
-    let mut fates = Vec::new(alloc);
-    for place in 0..setup.parts().packets.len() {
-        fates.push(fate(&ends, packet_at(setup, place)))?;
+    let mut maker = Maker::start(alloc, setup)?;
+    let mut fates = entry_fates(alloc, setup)?;
+    while let Some(next) = maker.due.pop() {
+        let visit = maker.make(alloc, setup, next)?;
+        fates[next.index as usize] = visit_fate(visit);
     }
     Ok(fates)
 }
 
-/// By packet number, what its last visit makes of it.
-fn last_fates(alloc: Global, visits: &[Visit]) -> Result<BTreeMap<u32, Fate>, NoMemory>
-    ensures { IfOk result (λ ends. (number : ℕ) →
-        tree.get nat_cmp ends number ≡ option_map fate_at (last_visit visits.now number)) }
+/// What becomes of each packet as long as it visits no pipe: it leaves when it enters.
+fn entry_fates(alloc: Global, setup: &Setup) -> Result<Vec<Fate>, NoMemory>
+    ensures { IfOk result (λ fates. fates.items ≡ map (fate_after []) setup.now.packets) }
 {
-    let mut ends = BTreeMap::new(alloc);
-    for visit in visits {
-        ends.insert(visit.packet, visit_fate(visit))?;
-    }
-    Ok(ends)
+    let fates = setup
+        .parts()
+        .packets
+        .iter()
+        .map(|plan| Fate::Left {
+            tick: plan.entry_tick,
+        })
+        .collect(alloc)?;
+    Ok(fates)
 }
 
-fn visit_fate(visit: &Visit) -> Fate
-    ensures { result ≡ fate_at visit.now }
+/// What a visit makes of its packet, if it is the last of it.
+fn visit_fate(visit: Visit) -> Fate
+    ensures { result ≡ fate_of_visit visit }
 {
     match visit.step {
         Step::Lost => Fate::Dropped {
@@ -55,13 +56,4 @@ fn visit_fate(visit: &Visit) -> Fate
         },
         Step::Pass { exit } => Fate::Left { tick: exit },
     }
-}
-
-/// A packet that visits no pipe leaves when it enters.
-fn fate(ends: &BTreeMap<u32, Fate>, packet: PacketPlan) -> Fate
-    ensures { result ≡ unwrap_or (tree.get nat_cmp ends.now packet.number) (Left packet.entry_tick) }
-{
-    ends.get(&packet.number).copied().unwrap_or(Fate::Left {
-        tick: packet.entry_tick,
-    })
 }

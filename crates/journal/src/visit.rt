@@ -7,7 +7,7 @@ pub struct Visit {
     pub tick: u64,
     /// The packet's number.
     pub packet: u32,
-    /// The place of the pipe on the packet's route, from 0.
+    /// The index of the pipe on the packet's route, from 0.
     pub hop: u32,
     /// The pipe's number.
     pub pipe: u32,

@@ -1,5 +1,11 @@
 pub mod Above
 pub mod Bounds
+pub mod CanonicalOrder
 pub mod Coming
+pub mod Growing
+pub mod Grown
+pub mod OneJournal
+pub mod Origins
 pub mod Params
+pub mod Pending
 pub mod Recurrence

@@ -89,6 +89,14 @@ impl Pipe {
         self.visits
     }
 
+    /// Of the 2^32 loss words, how many lose nothing at a tick that isn't before the last visit.
+    pub fn keep_at(&self, tick: u64) -> u64
+        requires { self.now.last_tick ≤ tick }
+        ensures { result ≡ (params_at self.now tick).keep }
+    {
+        in_force_at(&self.changes, self.in_force, tick).params.keep
+    }
+
     /// Adds a visit at `tick` by a packet of `len` bytes, and says what comes of it. `lost` says that its loss word is at
     /// least the keep of the pipe's parameters at that tick.
     ///

@@ -1,5 +1,5 @@
-use Rattle.journal.specs.Queue.{HaveEntered}
+use Rattle.journal.specs.Held.{HaveEntered}
 use Rattle.journal.proofs.maker.first_dues.Given as goal
 
-abbrev pub invariant-loop-place : goal.invariant-loop-place
-invariant-loop-place l = HaveEntered l.setup l.place l.due
+abbrev pub invariant-loop-index : goal.invariant-loop-index
+invariant-loop-index l = HaveEntered l.setup l.index l.due

@@ -1,0 +1,116 @@
+ghost use Rattle.std.specs.Prelude.{◌≡◌, ◌+◌, ◌*◌, ◌<◌, ◌≤◌, ◌∷◌, ◌++◌, ◌==◌, [], List, length, map, filter, Some, IfOk, OnOk, OnErr};
+ghost use Rattle.pipe.specs.Finishes.{PastVisit};
+ghost use Rattle.pipe.specs.PipeView.{StandsFor};
+ghost use Rattle.journal.specs.SetupView.{packet_of, len_of};
+ghost use Rattle.journal.specs.Steps.{is_lost, step_of};
+ghost use Rattle.journal.specs.IsPipe.{IsOfSetup, IsPipe};
+
+use crate::lazy_words::LazyWords;
+use crate::setup::{LossBy, PacketPlan, PipeChange, Setup};
+use crate::steps::packet_len;
+use mn_base::limits::{KEEP_MAX, PACKETS_MAX, TIME_NS_END};
+use mn_base::{NoMemory, PipeParams};
+use pipe::{Due, Pipe, Step};
+use std::alloc::Global;
+use std::marker::Model;
+
+/// A pipe of a setup at work: what it remembers of its visits, and its loss words.
+#[derive(Drop)]
+pub struct SetupPipe {
+    pipe: Pipe,
+    words: LazyWords,
+}
+
+impl Model for SetupPipe {
+    ghost use Rattle.journal.specs.IsPipe.{SetupPipeView};
+
+    ghost Value = { SetupPipeView };
+
+    ghost view = { λ p. record { number = p.words.pipe; seed = p.words.seed; memory = p.pipe } };
+}
+
+/// The setup's pipe of a number, with its changes, before any visit.
+pub fn idle_pipe(alloc: Global, setup: &Setup, number: u32) -> Result<SetupPipe, NoMemory>
+    requires { number < length setup.now.pipes }
+    ensures { IfOk result (IsPipe setup.now [] number) }
+{
+    let parts = setup.parts();
+    let changes = changes_of(alloc, &parts.changes, number)?;
+    Ok(SetupPipe {
+        pipe: Pipe::with_changes(alloc, parts.pipes[number as usize], changes, parts.tick_ns),
+        words: LazyWords::new(parts.seed, number),
+    })
+}
+
+/// The changes of one pipe, each with its tick.
+fn changes_of(
+    alloc: Global,
+    changes: &[PipeChange],
+    number: u32,
+) -> Result<Vec<(u64, PipeParams)>, NoMemory>
+    ensures { IfOk result (λ list.
+        list.items ≡ map (λ c. (c.tick, c.params)) (filter (λ c. c.pipe == number) changes.now)) }
+{
+    let list = changes
+        .iter()
+        .filter(|change| change.pipe == number)
+        .map(|change| (change.tick, change.params))
+        .collect(alloc)?;
+    Ok(list)
+}
+
+impl SetupPipe {
+    /// Makes a visit that is due at this pipe, of the packet with this plan: says what comes of it, for each list of earlier
+    /// visits that the pipe stands for, and stands for that list with the visit added. `NoMemory` leaves the pipe as it was.
+    pub fn decide(
+        &mut self,
+        alloc: Global,
+        setup: &Setup,
+        due: Due,
+        plan: PacketPlan,
+    ) -> Result<Step, NoMemory>
+        requires of_setup { IsOfSetup setup.now self.old }
+        requires packet { plan.number ≡ due.packet }
+        requires known { packet_of setup.now plan.number ≡ Some plan }
+        requires order { self.old.memory.last_tick ≤ due.tick }
+        requires time { due.tick * setup.now.tick_ns < TIME_NS_END }
+        requires few { self.old.memory.visits < PACKETS_MAX }
+        ensures step { IfOk result (λ step. (h : List PastVisit) → StandsFor self.old.memory h
+            → step ≡ step_of setup.now self.old.number due h) }
+        ensures stands { OnOk result ((h : List PastVisit) → StandsFor self.old.memory h
+            → StandsFor self.new.memory
+              (h ++ record { tick = due.tick; len = len_of setup.now due.packet; step = step_of setup.now self.old.number due h } ∷ [])) }
+
+        // It stays that pipe, and its last visit is this one.
+        ensures of_setup { OnOk result (IsOfSetup setup.now self.new) }
+        ensures number { OnOk result (self.new.number ≡ self.old.number) }
+        ensures last_tick { OnOk result (self.new.memory.last_tick ≡ due.tick) }
+        ensures visits { OnOk result (self.new.memory.visits ≡ self.old.memory.visits + 1) }
+        ensures err { OnErr result (self.new ≡ self.old) }
+    {
+        let len = packet_len(setup, plan);
+        let lost = self.loses(alloc, setup, due)?;
+        let step = self.pipe.visit(due.tick, len, lost)?;
+        Ok(step)
+    }
+
+    /// Whether the visit's loss word is at least the pipe's keep. A pipe that loses nothing is asked for no word.
+    fn loses(&mut self, alloc: Global, setup: &Setup, due: Due) -> Result<bool, NoMemory>
+        requires of_setup { IsOfSetup setup.now self.old }
+        requires order { self.old.memory.last_tick ≤ due.tick }
+        ensures lost { IfOk result (λ lost. (h : List PastVisit) → StandsFor self.old.memory h
+            → lost ≡ is_lost setup.now self.old.number due h) }
+        ensures same { self.new ≡ self.old }
+    {
+        let keep = self.pipe.keep_at(due.tick);
+        if keep == KEEP_MAX {
+            return Ok(false);
+        }
+        let place = match setup.parts().loss {
+            LossBy::Packet => due.packet,
+            LossBy::Arrival => self.pipe.visits(),
+        };
+        let word = self.words.word(alloc, place)?;
+        Ok(keep <= u64::from(word))
+    }
+}
