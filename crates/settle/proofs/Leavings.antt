@@ -12,7 +12,7 @@ use Rattle.journal.specs.declared.fate.Fate.{Fate}
 use Rattle.journal.specs.declared.fate.Fate.TheVariants.{Left, Dropped}
 use Rattle.journal.specs.SetupView.{SetupView, packet_of}
 use Rattle.journal.specs.IsSetup.{IsSetup}
-use Rattle.journal.specs.Fates.{fate_in}
+use Rattle.journal.specs.Fates.{fate_after}
 use Rattle.settle.specs.declared.outcome.Leaving.{Leaving}
 use Rattle.settle.specs.OutcomeView.{OutcomeView}
 use Rattle.settle.specs.IsOutcome.{leaving_of, leavings, IsOutcome}
@@ -33,9 +33,9 @@ each_listed Q fate (p ∷ ps) (b ∷ bytes) each =
     go (Dropped pipe tick cause) holds rest = rest
 
 -- what holds of each packet with its bytes, should it leave, holds of all that left
-pub each_left : (Q : Leaving → Type 0) (S : SetupView) (visits : List Visit) (bytes : List (List ℕ)) (o : OutcomeView) → IsOutcome S visits bytes o → ((p : PacketPlan) (b : List ℕ) → Among p S.packets → Among b bytes → IfLeft Q p.number b (fate_in visits p)) → All Q o.leaving
+pub each_left : (Q : Leaving → Type 0) (S : SetupView) (visits : List Visit) (bytes : List (List ℕ)) (o : OutcomeView) → IsOutcome S visits bytes o → ((p : PacketPlan) (b : List ℕ) → Among p S.packets → Among b bytes → IfLeft Q p.number b (fate_after visits p)) → All Q o.leaving
 each_left Q S visits bytes o is each =
-    All-permutation Q (leavings S visits bytes) o.leaving is.leaving (each_listed Q (fate_in visits) S.packets bytes each)
+    All-permutation Q (leavings S visits bytes) o.leaving is.leaving (each_listed Q (fate_after visits) S.packets bytes each)
 
 found : (p : PacketPlan) (ps : List PacketPlan) → Among p ps → IsSome (find (λ q. eqb q.number p.number) ps)
 found p [] among = absurd among
@@ -58,11 +58,11 @@ left-bytes P S visits bytes o is each =
     each_left (λ left. P left.bytes) S visits bytes o is (λ p b among listed tick left. each b listed)
 
 -- what holds of each tick at which a packet leaves holds of those of the outcome
-pub left-ticks : (P : ℕ → Type 0) (S : SetupView) (visits : List Visit) (bytes : List (List ℕ)) (o : OutcomeView) → IsOutcome S visits bytes o → ((p : PacketPlan) (tick : ℕ) → Among p S.packets → fate_in visits p ≡ Left tick → P tick) → All (λ left. P left.tick) o.leaving
+pub left-ticks : (P : ℕ → Type 0) (S : SetupView) (visits : List Visit) (bytes : List (List ℕ)) (o : OutcomeView) → IsOutcome S visits bytes o → ((p : PacketPlan) (tick : ℕ) → Among p S.packets → fate_after visits p ≡ Left tick → P tick) → All (λ left. P left.tick) o.leaving
 left-ticks P S visits bytes o is each =
     each_left (λ left. P left.tick) S visits bytes o is (λ p b among listed tick left. each p tick among left)
 
 -- no packet leaves twice
 pub left-differ : (S : SetupView) (visits : List Visit) (bytes : List (List ℕ)) (o : OutcomeView) → IsSetup S → IsOutcome S visits bytes o → AllPairs (λ a b. a.packet ≢ b.packet) o.leaving
 left-differ S visits bytes o setup is =
-    packets-differ (leavings S visits bytes) o.leaving (leavings-rise (fate_in visits) S.packets bytes setup.numbers_rise) is.leaving
+    packets-differ (leavings S visits bytes) o.leaving (leavings-rise (fate_after visits) S.packets bytes setup.numbers_rise) is.leaving

@@ -1,5 +1,13 @@
+pub mod ByPacket
 pub mod Counts
 pub mod InOrder
+pub mod JournalWalks
 pub mod Leavings
+pub mod Lists
+pub mod NoCores
 pub mod OneOutcome
 pub mod Outcomes
+pub mod Sums
+pub mod Tallies
+pub mod Walks
+pub mod WayCounts

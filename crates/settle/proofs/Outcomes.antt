@@ -7,7 +7,7 @@ use Rattle.journal.specs.declared.visit.Visit.{Visit}
 use Rattle.journal.specs.declared.fate.Fate.{Fate}
 use Rattle.journal.specs.SetupView.{SetupView}
 use Rattle.journal.specs.IsSetup.{IsSetup}
-use Rattle.journal.specs.Fates.{fate_in}
+use Rattle.journal.specs.Fates.{fate_after}
 use Rattle.settle.specs.declared.outcome.Leaving.{Leaving}
 use Rattle.settle.specs.OutcomeView.{OutcomeView}
 use Rattle.settle.specs.IsOutcome.{leaving_of, drop_of, counts_of, IsOutcome}
@@ -24,22 +24,27 @@ drops-beside : (fate : PacketPlan → Fate) (ps : List PacketPlan) → filter_ma
 drops-beside fate [] = refl
 drops-beside fate (p ∷ ps) = ap (cons_option (drop_of p.number (fate p))) (drops-beside fate ps)
 
--- ps, qs and n are what the code reads as the packets and as the number of pipes
-pub IsOutcome-gathered : (S : SetupView) (visits : List Visit) (bytes : List (List ℕ)) (fates : List Fate) (ps qs : List PacketPlan) (n : ℕ) (left : List Leaving) (o : OutcomeView) → IsSetup S → fates ≡ map (fate_in visits) S.packets → ps ≡ S.packets → qs ≡ S.packets → n ≡ length S.pipes → left ≡ filter_map (λ p. leaving_of p.0.0.number p.1 p.0.1) (zip (zip ps fates) bytes) → IsPermutation left o.leaving → IsSortedByKey tick_and_packet pair_cmp o.leaving → o.dropped ≡ filter_map (λ p. drop_of p.0.number p.1) (zip qs fates) → o.pipe_counts ≡ map (counts_of visits) (range_with_len 0 n) → IsOutcome S visits bytes o
-IsOutcome-gathered S visits bytes fates ps qs n left o setup fates_are ps_are qs_are n_is left_are moved sorted dropped counted =
+-- what was gathered, where ps and qs are what the code reads as the packets
+pub IsOutcome-gathered : (S : SetupView) (visits : List Visit) (bytes : List (List ℕ)) (fates : List Fate) (ps qs : List PacketPlan) (left : List Leaving) (o : OutcomeView)
+    → IsSetup S → length bytes ≡ length S.packets → fates ≡ map (fate_after visits) S.packets → ps ≡ S.packets → qs ≡ S.packets
+    → left ≡ filter_map (λ p. leaving_of p.0.0.number p.1 p.0.1) (zip (zip ps fates) bytes) → IsPermutation left o.leaving
+    → IsSortedByKey tick_and_packet pair_cmp o.leaving → o.dropped ≡ filter_map (λ p. drop_of p.0.number p.1) (zip qs fates)
+    → o.pipe_counts ≡ map (counts_of visits) (range_with_len 0 (length S.pipes)) → IsOutcome S visits bytes o
+IsOutcome-gathered S visits bytes fates ps qs left o setup as_many fates_are ps_are qs_are left_are moved sorted dropped counted =
     let found =
     left_are
     ∙ ap (λ ps. filter_map (λ p. leaving_of p.0.0.number p.1 p.0.1) (zip (zip ps fates) bytes)) ps_are
     ∙ ap (λ fates. filter_map (λ p. leaving_of p.0.0.number p.1 p.0.1) (zip (zip S.packets fates) bytes)) fates_are
-    ∙ leavings-beside (fate_in visits) S.packets bytes in
+    ∙ leavings-beside (fate_after visits) S.packets bytes in
     let permuted = subst (λ xs. IsPermutation xs o.leaving) found moved in
     record {
+      each_has_bytes = as_many;
       leaving = permuted;
-      in_order = sorted-in_order o.leaving sorted (packets-differ _ o.leaving (leavings-rise (fate_in visits) S.packets bytes setup.numbers_rise) permuted);
+      in_order = sorted-in_order o.leaving sorted (packets-differ _ o.leaving (leavings-rise (fate_after visits) S.packets bytes setup.numbers_rise) permuted);
       dropped =
           dropped
           ∙ ap (λ qs. filter_map (λ p. drop_of p.0.number p.1) (zip qs fates)) qs_are
           ∙ ap (λ fates. filter_map (λ p. drop_of p.0.number p.1) (zip S.packets fates)) fates_are
-          ∙ drops-beside (fate_in visits) S.packets;
-      pipe_counts = counted ∙ ap (λ n. map (counts_of visits) (range_with_len 0 n)) n_is;
+          ∙ drops-beside (fate_after visits) S.packets;
+      pipe_counts = counted;
     }

@@ -9,7 +9,7 @@ use Rattle.journal.specs.declared.visit.Visit.{Visit}
 use Rattle.journal.specs.declared.fate.Fate.{Fate}
 use Rattle.journal.specs.declared.fate.Fate.TheVariants.{Left, Dropped}
 use Rattle.journal.specs.SetupView.{SetupView}
-use Rattle.journal.specs.Fates.{fate_in}
+use Rattle.journal.specs.Fates.{fate_after}
 use Rattle.parcel.specs.declared.counts.PipeCounts.{PipeCounts}
 use Rattle.settle.specs.declared.outcome.Leaving.{Leaving}
 use Rattle.settle.specs.declared.outcome.DropLine.{DropLine}
@@ -28,11 +28,11 @@ drop_of packet (Dropped pipe tick cause) =
 
 -- the packets that left, in packet order, each with its bytes
 abbrev pub leavings : SetupView → List Visit → List (List ℕ) → List Leaving
-leavings S J bytes = filter_map (λ p. leaving_of p.0.number p.1 (fate_in J p.0)) (zip S.packets bytes)
+leavings S J bytes = filter_map (λ p. leaving_of p.0.number p.1 (fate_after J p.0)) (zip S.packets bytes)
 
 -- the packets that were dropped, in packet order
 abbrev pub drop_lines : SetupView → List Visit → List DropLine
-drop_lines S J = filter_map (λ p. drop_of p.number (fate_in J p)) S.packets
+drop_lines S J = filter_map (λ p. drop_of p.number (fate_after J p)) S.packets
 
 abbrev pub has_lost : Step → Bool
 has_lost Lost = true
@@ -63,6 +63,8 @@ LeavesBefore a b = (a.tick < b.tick) ⊎ ((a.tick ≡ b.tick) × (a.packet < b.p
 
 -- o is the outcome of the setup S whose packets have these bytes, where J is the list of all visits
 pub record IsOutcome (S : SetupView) (J : List Visit) (bytes : List (List ℕ)) (o : OutcomeView) : Type 0 where
+  -- each packet has its bytes
+  pub each_has_bytes : length bytes ≡ length S.packets
   -- the packets that left, each once, with its bytes, at the tick of its fate
   pub leaving : IsPermutation (leavings S J bytes) o.leaving
   -- by tick, then by packet number

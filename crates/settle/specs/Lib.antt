@@ -2,3 +2,4 @@ pub mod Counted
 pub mod IsOutcome
 pub mod Laws
 pub mod OutcomeView
+pub mod Ways

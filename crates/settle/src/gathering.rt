@@ -1,33 +1,33 @@
 ghost use Rattle.std.specs.Prelude.{◌≡◌, ◌<◌, [], length, map, filter_map, IfOk};
 ghost use Rattle.std.specs.List.{zip};
-ghost use Rattle.journal.specs.Fates.{fate_in};
+ghost use Rattle.journal.specs.Journal.{journal_of};
+ghost use Rattle.journal.specs.Fates.{fate_of};
 ghost use Rattle.settle.specs.IsOutcome.{leaving_of, drop_of, IsOutcome};
 
 use crate::counting::count_visits;
 use crate::outcome::{DropLine, Leaving, Outcome};
-use journal::{Fate, PacketPlan, Setup, Visit};
+use journal::{Fate, PacketPlan, Setup};
 use mn_base::{Bytes, NoMemory};
 use std::alloc::{AllocError, Global};
 
-/// The outcome of a setup, by the list of all visits, the fates of the packets and their bytes. The packets that left are
-/// put in the order of (tick, packet).
+/// The outcome of a setup, by the fates of its packets and their bytes, which are moved. The packets that left are put in the
+/// order of (tick, packet).
 pub fn gather(
     alloc: Global,
     setup: &Setup,
-    visits: &[Visit],
     fates: &[Fate],
     bytes: Vec<Bytes>,
 ) -> Result<Outcome, NoMemory>
-    requires fates { fates.now ≡ map (fate_in visits.now) setup.now.packets }
+    requires fates { fates.now ≡ map (fate_of setup.now) setup.now.packets }
     requires bytes { length bytes.items ≡ length setup.now.packets }
-    ensures outcome { IfOk result (IsOutcome setup.now visits.now bytes.items) }
+    ensures outcome { IfOk result (IsOutcome setup.now (journal_of setup.now) bytes.items) }
     ensures cores { IfOk result (λ o. o.cores ≡ []) }
 {
     let parts = setup.parts();
     let mut leaving = all_leaving(alloc, &parts.packets, fates, bytes)?;
     leaving.sort_by_key(|left| (left.tick, left.packet))?;
     let dropped = all_dropped(alloc, &parts.packets, fates)?;
-    let pipe_counts = count_visits(alloc, parts.pipes.len() as u32, visits)?;
+    let pipe_counts = count_visits(alloc, setup, fates)?;
     Ok(Outcome {
         leaving,
         dropped,

@@ -2,9 +2,9 @@ ghost use Rattle.std.specs.Prelude.{◌≡◌, ℕ, [], ◌∷◌, IfOk};
 ghost use Rattle.journal.specs.declared.setup.PacketPlan.{PacketPlan};
 
 use crate::{Outcome, gather};
-use journal::{Fate, PacketPlan, Setup, SetupParts, Visit};
+use journal::{LossBy, PacketPlan, Setup, SetupParts, fates};
+use mn_base::limits::{KEEP_MAX, LINK_TYPE_RAW, TICK_NS_DEFAULT};
 use mn_base::{Bytes, Cause, NoMemory, PipeParams};
-use pipe::Step;
 use std::alloc::Global;
 use std::test::Fail;
 
@@ -13,7 +13,7 @@ fn setup(alloc: Global) -> Result<Setup, NoMemory>
     ensures { let packet : ℕ → ℕ → PacketPlan = λ number tick. record { number = number; entry_tick = tick; len = 1000; route = 0; core = 0 } in
         IfOk result (λ s. s.packets ≡ packet 0 10 ∷ packet 1 9 ∷ packet 2 0 ∷ []) }
 {
-    let pipe = PipeParams::new(8_000_000, 5_000, 1, 4_294_967_296, 100_000);
+    let pipe = PipeParams::new(8_000_000, 5_000, 1, KEEP_MAX, TICK_NS_DEFAULT);
     let last = PacketPlan {
         number: 0,
         entry_tick: 10,
@@ -33,60 +33,29 @@ fn setup(alloc: Global) -> Result<Setup, NoMemory>
     };
     let route = vec![in alloc; 0]?;
     Ok(Setup::new(SetupParts {
-        tick_ns: 100_000,
+        tick_ns: TICK_NS_DEFAULT,
         seed: 0,
         base_ns: 0,
-        link_type: 101,
+        link_type: LINK_TYPE_RAW,
         cores: 1,
         pipes: vec![in alloc; pipe]?,
         owners: vec![in alloc; 0]?,
         routes: vec![in alloc; route]?,
         packets: vec![in alloc; last, middle, first]?,
+        changes: Vec::new(alloc),
+        loss: LossBy::Packet,
     }))
 }
 
 /// 1,000 bytes take 10 ticks, and the latency is 50. The packet that comes at tick 9 finds the first one still there, and
 /// the one at tick 10 doesn't.
 fn outcome(alloc: Global) -> Result<Outcome, NoMemory> {
-    let visit = Visit {
-        tick: 0,
-        packet: 2,
-        hop: 0,
-        pipe: 0,
-        step: Step::Pass { exit: 60 },
-    };
-    let visits = [
-        visit,
-        Visit {
-            tick: 9,
-            packet: 1,
-            step: Step::Full,
-            ..visit
-        },
-        Visit {
-            tick: 10,
-            packet: 0,
-            step: Step::Pass { exit: 70 },
-            ..visit
-        },
-    ];
-    let dropped = Fate::Dropped {
-        pipe: 0,
-        tick: 9,
-        cause: Cause::Full,
-    };
-    let fates = [Fate::Left { tick: 70 }, dropped, Fate::Left { tick: 60 }];
     let setup = setup(alloc)?;
+    let fates = fates(alloc, &setup)?;
     let bytes = Bytes::copy(alloc, b"a")?;
     let more = Bytes::copy(alloc, b"b")?;
     let most = Bytes::copy(alloc, b"c")?;
-    gather(
-        alloc,
-        &setup,
-        &visits,
-        &fates,
-        vec![in alloc; bytes, more, most]?,
-    )
+    gather(alloc, &setup, &fates, vec![in alloc; bytes, more, most]?)
 }
 
 #[test]

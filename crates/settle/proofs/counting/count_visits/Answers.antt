@@ -1,18 +1,27 @@
-use Rattle.std.proofs.Common.{◌≡◌, ◌+◌, ◌^◌, ◌<◌, ◌∙◌, length, ap, arith, rules}
-use Rattle.settle.proofs.Counts.{counted_step, counted_nowhere, counted_room}
+use Rattle.std.proofs.Common.{length, sym, ap, ◌∙◌, arith}
+use Rattle.std.proofs.lemmas.List.{get_or_default, length-map}
+use Rattle.journal.specs.SetupView.{SetupView}
+use Rattle.journal.specs.Fates.{fate_of}
+use Rattle.settle.proofs.Tallies.{tally-below, below-long, below-more, below-all}
 use Rattle.settle.proofs.counting.count_visits.Goals as goal
-use Rattle.settle.proofs.counting.count_visits.Goals.{then-place-len, else-place-len}
 
-pub with_visit-requires : goal.with_visit-requires
-with_visit-requires c =
-    let few : length c.args.visits.now + 1 < 2 ^ 64 = omega arith in
-    let size : c.len.result ≡ length c.loop-visit.all.items = search rules in
-    counted_room c.args.pipes c.args.visits.now c.loop-visit.visit-index _ _ c.index.result.now _ (omega arith) few c.loop-visit.invariant c.if-place-len.true size c.index.ensures
+pub count_way-requires-clause-tally : goal.count_way-requires-clause-tally
+count_way-requires-clause-tally c =
+    let many = ap length c.requires.fates ∙ length-map c.args.setup.now.packets (fate_of c.args.setup.now) in
+    tally-below c.args.setup.now c.parts.ensures.kept c.loop-index.index c.loop-index.all.items (length c.route_at.result.now) c.loop-index.invariant
+    (omega (arith, many)) c.route_at.ensures.short
 
-pub loop-visit-preserved : goal.loop-visit-preserved
-loop-visit-preserved c =
-    let size : c.len.result ≡ length c.loop-visit.all.items = search rules in
-    elim c.if-place-len.branch [
-      | then-place-len w ↦ counted_step c.args.pipes c.args.visits.now c.loop-visit.visit-index _ _ _ _ _ _ c.loop-visit-test.true w.if-place-len.true size (ap (λ v. v.items) w.all-is) w.with_visit.ensures w.index.ensures c.loop-visit.invariant
-      | else-place-len w ↦ ap (λ v. v.items) w.all-is ∙ counted_nowhere c.args.pipes c.args.visits.now c.loop-visit.visit-index _ _ _ c.loop-visit-test.true w.if-place-len.false size c.loop-visit.invariant
-    ]
+pub count_way-requires-clause-named : goal.count_way-requires-clause-named
+count_way-requires-clause-named c =
+    let long = below-long c.args.setup.now c.parts.ensures.kept c.loop-index.index c.loop-index.all.items c.loop-index.invariant in
+    λ k d within. omega (arith, long, c.route_at.ensures.named k d within)
+
+pub loop-index-preserved : goal.loop-index-preserved
+loop-index-preserved c =
+    below-more c.args.setup.now c.parts.ensures.kept c.loop-index.index c.loop-index.all.items c.count_way.new.all.items c.route_at.result.now _ c.args.fates.now
+    c.loop-index.invariant c.loop-index-test.true c.requires.fates (get_or_default c.args.fates.now c.loop-index.index _ _ c.loop-index-test.true) c.route_at.ensures.route c.count_way.ensures
+
+pub returns : goal.returns
+returns c =
+    let many = ap length c.requires.fates ∙ length-map c.args.setup.now.packets (fate_of c.args.setup.now) in
+    below-all c.args.setup.now c.parts.ensures.kept c.loop-index.index c.loop-index.all.items c.loop-index.invariant (omega (arith, many))
