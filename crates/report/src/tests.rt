@@ -1,5 +1,6 @@
 use crate::{out_trace, print_report};
-use journal::{PacketPlan, Setup, SetupParts};
+use journal::{LossBy, PacketPlan, Setup, SetupParts};
+use mn_base::limits::{KEEP_MAX, LINK_TYPE_RAW, TICK_NS_DEFAULT};
 use mn_base::{Bytes, Cause, NoMemory, PipeParams, Unbound};
 use parcel::PipeCounts;
 use settle::{DropLine, Leaving, Outcome};
@@ -113,7 +114,7 @@ fn words_of_all_causes(rt: HostRuntime) -> Result<(), Fail> {
 
 #[test]
 fn trace_of_packets_that_leave_out_of_number_order(rt: HostRuntime) -> Result<(), Fail> {
-    let pipe = PipeParams::new(8_000_000, 5_000, 50, 4_294_967_296, 100_000);
+    let pipe = PipeParams::new(8_000_000, 5_000, 50, KEEP_MAX, TICK_NS_DEFAULT);
     let second = PacketPlan {
         number: 1,
         entry_tick: 0,
@@ -127,15 +128,17 @@ fn trace_of_packets_that_leave_out_of_number_order(rt: HostRuntime) -> Result<()
         ..second
     };
     let setup = Setup::new(SetupParts {
-        tick_ns: 100_000,
+        tick_ns: TICK_NS_DEFAULT,
         seed: 0,
         base_ns: 10_000_000_000,
-        link_type: 101,
+        link_type: LINK_TYPE_RAW,
         cores: 1,
         pipes: vec![in rt.alloc(); pipe]?,
         owners: vec![in rt.alloc(); 0]?,
         routes: vec![in rt.alloc(); vec![in rt.alloc(); 0]?]?,
         packets: vec![in rt.alloc(); first, second]?,
+        changes: Vec::new(rt.alloc()),
+        loss: LossBy::Packet,
     });
     let left_last = Leaving {
         tick: 70,

@@ -1,5 +1,6 @@
-ghost use Rattle.std.specs.Prelude.{◌≡◌, ◌≢◌, ◌*◌, ◌^◌, ◌<◌, ◌≤◌, length, All, AllPairs, IfOk, IsSome};
+ghost use Rattle.std.specs.Prelude.{◌≡◌, ◌≢◌, ◌<◌, ◌≤◌, length, All, AllPairs, IfOk, IsSome};
 ghost use Rattle.mn_base.specs.Times.{output_time};
+ghost use Rattle.mn_base.specs.declared.limits.TheConstants.{PACKET_BYTES_MAX, RECORD_NS_END};
 ghost use Rattle.journal.specs.SetupView.{packet_of, len_of};
 ghost use Rattle.report.specs.Traces.{trace_of, packet_left};
 
@@ -14,8 +15,8 @@ use std::alloc::Global;
 pub fn out_trace(alloc: Global, setup: &Setup, leaving: Vec<Leaving>) -> Result<Trace, NoMemory>
     requires of_setup { All (λ left. IsSome (packet_of setup.now left.packet)) leaving.items }
     requires different { AllPairs (λ a b. a.packet ≢ b.packet) leaving.items }
-    requires lengths { All (λ left. length left.bytes ≤ 262144) leaving.items }
-    requires times { All (λ left. output_time setup.now.base_ns setup.now.tick_ns left.tick < 2 ^ 32 * 10 ^ 9) leaving.items }
+    requires lengths { All (λ left. length left.bytes ≤ PACKET_BYTES_MAX) leaving.items }
+    requires times { All (λ left. output_time setup.now.base_ns setup.now.tick_ns left.tick < RECORD_NS_END) leaving.items }
     ensures { IfOk result (λ trace. trace ≡ trace_of setup.now leaving.items) }
 {
     let parts = setup.parts();

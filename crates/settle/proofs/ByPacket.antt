@@ -27,7 +27,7 @@ one_packet n b (q ∷ ps) rise p (inl same) is =
     let here : q.number ≡ n = ap (λ (r : PacketPlan). r.number) same ∙ is in
     let first : as_number (eqb n q.number && b) ≡ as_number b = rw (eq-eqb n q.number (sym here)) refl in
     let rest = sum_by-zero (λ r. as_number (eqb n r.number && b)) ps
-        (λ r later. let above : q.number < r.number = numbers_rise-head q ps rise r later in rw (ne_eqb n r.number (λ e. omega arith)) refl) in
+    (λ r later. let above : q.number < r.number = numbers_rise-head q ps rise r later in rw (ne_eqb n r.number (λ e. omega arith)) refl) in
     omega (arith, first, rest, sum_by-cons (λ r. as_number (eqb n r.number && b)) q ps)
 one_packet n b (q ∷ ps) rise p (inr later) is =
     let above : q.number < p.number = numbers_rise-head q ps rise p later in
@@ -45,5 +45,5 @@ many-by_packet test (v ∷ J) ps rise named =
     let its = named v (inl refl) in
     let one = one_packet v.packet (test v) ps rise its.0 its.1 its.2 in
     let split = sum_by-plus (λ p. many (λ w. eqb w.packet p.number && test w) (v ∷ J)) (λ p. as_number (eqb v.packet p.number && test v)) (λ p. many (λ w. eqb w.packet p.number && test w) J) ps
-        (λ p. many-cons (λ w. eqb w.packet p.number && test w) v J) in
+    (λ p. many-cons (λ w. eqb w.packet p.number && test w) v J) in
     omega (arith, rest, one, split, many-cons test v J)

@@ -46,7 +46,7 @@ packets-few low high [] rise within = omega arith
 packets-few low high (p ∷ ps) rise within =
     let here = within p (inl refl) in
     let rest = packets-few (p.number + 1) high ps (numbers_rise-tail p ps rise)
-        (λ q among. let above : p.number < q.number = numbers_rise-head p ps rise q among in (omega arith, (within q (inr among)).1)) in
+    (λ q among. let above : p.number < q.number = numbers_rise-head p ps rise q among in (omega arith, (within q (inr among)).1)) in
     omega (arith, here.0, here.1, rest)
 
 -- the counts are those of the packets below an index

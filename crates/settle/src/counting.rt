@@ -67,7 +67,11 @@ fn dropped_at(fate: Fate, pipe: u32) -> Option<Step>
     ensures { result ≡ drop_step fate pipe }
 {
     match fate {
-        Fate::Dropped { pipe: at, cause, .. } if at == pipe => Some(drop_by(cause)),
+        Fate::Dropped {
+            pipe: at,
+            cause,
+            ..
+        } if at == pipe => Some(drop_by(cause)),
         _ => None,
     }
 }
