@@ -6,6 +6,7 @@ use Rattle.std.proofs.lemmas.List.{get_or-map, get_or-replicate, length-map, len
 use Rattle.std.proofs.lemmas.List.Elements.{All-cons}
 use Rattle.std.proofs.lemmas.List.FromFn.{length-enumerate_from, get_or-enumerate_from, length-range_with_len, get_or-range_with_len}
 use Rattle.std.proofs.lemmas.Slice.Zip.{AllZip-long}
+use Rattle.mn_base.specs.declared.limits.TheConstants.{ROUTE_PIPES_MAX, PACKETS_MAX, PACKET_BYTES_MAX, TIME_NS_END, ROUTE_DELAY_NS_END, OUTPUT_NS_END}
 use Rattle.mn_base.specs.declared.params.PipeParams.{PipeParams}
 use Rattle.mn_base.specs.Units.{latency_in_ticks}
 use Rattle.mn_base.specs.Times.{base_of}
@@ -82,8 +83,7 @@ usual_latencies tick_ns (pipe ∷ pipes) (p ∷ params) same =
 pub is_setup : (order : ChainView) (trace : Capture) (S : SetupView) → IsOrder order → IsTrace trace
     → All (λ p. IsRecordTime p.time_ns) trace.packets → IsChainSetup order trace S → IsSetup S
 is_setup order trace S o t times c = record {
-  tick_least = rw c.tick_ns o.tick.0;
-  tick_most = rw c.tick_ns o.tick.1;
+  tick = rw c.tick_ns o.tick;
   link_type = rw c.link_type t.link_type;
   cores_least = rw c.cores (lit≤ tt);
   cores_most = rw c.cores (lit≤ tt);
@@ -91,7 +91,7 @@ is_setup order trace S o t times c = record {
   one_owner = rw c.owners (length-replicate {A = ℕ} (length order.pipes) 0 ∙ sym long);
   owners = rw (c.owners, c.cores) (λ k d within. rw
       (get_or-replicate (length order.pipes) k 0 d (rw (length-replicate {A = ℕ} (length order.pipes) 0) at within)) (lit< tt));
-  routes_most = rw c.routes (All-one (λ route. length route ≤ 255) the_route
+  routes_most = rw c.routes (All-one (λ route. length route ≤ ROUTE_PIPES_MAX) the_route
       (rw (length-range_with_len 0 (length order.pipes)) (omega (arith, o.pipes_most))));
   routes_named = rw c.routes (All-one (λ route. All (λ pipe. pipe < length S.pipes) route) the_route
       (λ k d within. let inside : k < length order.pipes = rw (length-range_with_len 0 (length order.pipes)) at within in
@@ -104,24 +104,26 @@ is_setup order trace S o t times c = record {
             (length order.pipes) j d inside,
       ) (omega (arith, before))));
   numbers_rise = rw c.packets (plans_rise (trace_base trace) order.tick_ns trace.packets);
-  numbers_most = rw c.packets (All-plans (λ p. p.number < 1048576) (trace_base trace) order.tick_ns trace.packets
+  numbers_most = rw c.packets (All-plans (λ p. p.number < PACKETS_MAX) (trace_base trace) order.tick_ns trace.packets
       (λ k within. omega (arith, within, t.count)));
-  lens_most = rw c.packets (All-plans (λ p. p.len ≤ 262144) (trace_base trace) order.tick_ns trace.packets
+  lens_most = rw c.packets (All-plans (λ p. p.len ≤ PACKET_BYTES_MAX) (trace_base trace) order.tick_ns trace.packets
       (λ k within. (t.packets k no_packet within).original));
   packet_routes = rw (c.packets, c.routes)
       (All-plans (λ p. p.route < 1) (trace_base trace) order.tick_ns trace.packets (λ k within. lit< tt));
   packet_cores = rw (c.packets, c.cores) (All-plans (λ p. p.core < 1) (trace_base trace) order.tick_ns trace.packets
       (λ k within. lit< tt));
+  changes_rise = rw c.changes (λ i j d less within. absurd (omega arith));
+  changes_named = rw c.changes (λ k d within. absurd (omega arith));
   entries_fit = rw (c.packets, c.tick_ns)
-      (All-plans (λ p. p.entry_tick * order.tick_ns < 2 ^ 62 - 550000000000000000) (trace_base trace) order.tick_ns trace.packets
+      (All-plans (λ p. p.entry_tick * order.tick_ns < TIME_NS_END - ROUTE_DELAY_NS_END) (trace_base trace) order.tick_ns trace.packets
       (λ k within. let time = times k no_packet within in omega
       (arith, time, div-mul-le_self ((get_or trace.packets k no_packet).time_ns - trace_base trace) order.tick_ns)));
   times_fit = rw (c.packets, c.tick_ns, c.base_ns)
-      (All-plans (λ p. trace_base trace + p.entry_tick * order.tick_ns < 3600005000000000000)
+      (All-plans (λ p. trace_base trace + p.entry_tick * order.tick_ns < OUTPUT_NS_END)
       (trace_base trace) order.tick_ns trace.packets
       (λ k within. let time = times k no_packet within in let early = base_before k within in
       omega (arith, time, early, div-mul-le_self ((get_or trace.packets k no_packet).time_ns - trace_base trace) order.tick_ns)));
-  delays_fit = rw c.routes (All-one (λ route. longest_way S route < 550000000000000000) the_route way);
+  delays_fit = rw c.routes (All-one (λ route. longest_way S route < ROUTE_DELAY_NS_END) the_route way);
 }
   where
     the_route : List ℕ
@@ -135,8 +137,9 @@ is_setup order trace S o t times c = record {
         subst (λ time. trace_base trace ≤ time) (get_or-map (λ p. p.time_ns) trace.packets k no_packet 0 within)
         (base_is_least (map (λ p. p.time_ns) trace.packets) k 0 (rw (length-map trace.packets (λ p. p.time_ns)) within))
 
-    way : longest_way S the_route < 550000000000000000
+    way : longest_way S the_route < ROUTE_DELAY_NS_END
     way =
-        usual_delays_fit S the_route (rw c.tick_ns o.tick.0) (rw c.tick_ns o.tick.1)
+        usual_delays_fit S the_route (rw c.tick_ns o.tick)
         (rw c.tick_ns (usual_latencies order.tick_ns order.pipes S.pipes c.pipes))
+        (rw c.changes (λ k d within. absurd (omega arith)))
         (rw (length-range_with_len 0 (length order.pipes)) (omega (arith, o.pipes_most)))

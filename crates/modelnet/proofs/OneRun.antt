@@ -9,6 +9,8 @@ use Rattle.pcap_io.specs.Capture.{Capture}
 use Rattle.pcap_io.specs.Writing.{pcap_text}
 use Rattle.pcap_io.proofs.OneReading.{one_reading}
 use Rattle.journal.specs.declared.setup.PacketPlan.{PacketPlan}
+use Rattle.journal.specs.declared.setup.PipeChange.{PipeChange}
+use Rattle.journal.specs.declared.setup.LossBy.{LossBy}
 use Rattle.journal.specs.SetupView.{SetupView}
 use Rattle.journal.specs.Journal.{journal_of}
 use Rattle.settle.specs.OutcomeView.{OutcomeView}
@@ -74,8 +76,9 @@ one_list tick_ns (pipe ∷ pipes) (p ∷ ps) (q ∷ qs) is also =
     ap (λ r. r ∷ ps) (one_pipe tick_ns pipe p q is.0 also.0) ∙ ap (λ rs. q ∷ rs) (one_list tick_ns pipes ps qs is.1 also.1)
 
 -- the setup of these parts
-unfoldable setup_of_parts : ℕ → ℕ → ℕ → ℕ → ℕ → List PipeParams → List ℕ → List (List ℕ) → List PacketPlan → SetupView
-setup_of_parts tick_ns seed base_ns link_type cores pipes owners routes packets = record {
+unfoldable setup_of_parts : ℕ → ℕ → ℕ → ℕ → ℕ → List PipeParams → List ℕ → List (List ℕ) → List PacketPlan
+    → List PipeChange → LossBy → SetupView
+setup_of_parts tick_ns seed base_ns link_type cores pipes owners routes packets changes loss = record {
   tick_ns = tick_ns;
   seed = seed;
   base_ns = base_ns;
@@ -85,10 +88,12 @@ setup_of_parts tick_ns seed base_ns link_type cores pipes owners routes packets 
   owners = owners;
   routes = routes;
   packets = packets;
+  changes = changes;
+  loss = loss;
 }
 
 abbrev rebuilt : SetupView → SetupView
-rebuilt S = setup_of_parts S.tick_ns S.seed S.base_ns S.link_type S.cores S.pipes S.owners S.routes S.packets
+rebuilt S = setup_of_parts S.tick_ns S.seed S.base_ns S.link_type S.cores S.pipes S.owners S.routes S.packets S.changes S.loss
 
 same_parts : (order : ChainView) (trace : Capture) (S R : SetupView) → IsChainSetup order trace S → IsChainSetup order trace R
     → rebuilt S ≡ rebuilt R

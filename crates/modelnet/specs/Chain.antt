@@ -8,6 +8,7 @@ use Rattle.mn_base.specs.Times.{entry_tick_of}
 use Rattle.pcap_io.specs.declared.packet.Packet.{Packet}
 use Rattle.pcap_io.specs.Capture.{Capture, trace_base}
 use Rattle.journal.specs.declared.setup.PacketPlan.{PacketPlan}
+use Rattle.journal.specs.declared.setup.LossBy.TheVariants.{Packet as ByPacket}
 use Rattle.journal.specs.SetupView.{SetupView}
 use Rattle.modelnet.specs.declared.order.PipeSpec.{PipeSpec}
 use Rattle.modelnet.specs.Order.{ChainView}
@@ -33,7 +34,7 @@ plan_of base tick_ns numbered = record {
 abbrev pub plans_of : ℕ → ℕ → List Packet → List PacketPlan
 plans_of base tick_ns packets = map (plan_of base tick_ns) (enumerate_from 0 packets)
 
--- S is the setup of this order and this trace
+-- S is the setup of this order and this trace: no pipe changes, and loss words go by packet
 pub record IsChainSetup (order : ChainView) (trace : Capture) (S : SetupView) : Type 0 where
   pub tick_ns : S.tick_ns ≡ order.tick_ns
   pub seed : S.seed ≡ order.seed
@@ -44,3 +45,5 @@ pub record IsChainSetup (order : ChainView) (trace : Capture) (S : SetupView) : 
   pub owners : S.owners ≡ replicate (length order.pipes) 0
   pub routes : S.routes ≡ range_with_len 0 (length order.pipes) ∷ []
   pub packets : S.packets ≡ plans_of (trace_base trace) order.tick_ns trace.packets
+  pub changes : S.changes ≡ []
+  pub loss : S.loss ≡ ByPacket

@@ -6,13 +6,14 @@ ghost use Rattle.modelnet.specs.Order.{IsPipeSpec, IsOrder};
 ghost use Rattle.modelnet.specs.Chain.{IsPipeOf, IsChainSetup, plans_of};
 
 use crate::order::{ChainOrder, PipeSpec};
-use journal::{PacketPlan, Setup, SetupParts};
+use journal::{LossBy, PacketPlan, Setup, SetupParts};
 use mn_base::limits::{CHAIN_PIPES_MAX, PACKETS_MAX};
 use mn_base::{NoMemory, PipeParams, entry_tick, keep_of_ppm};
 use pcap_io::{Packet, Trace};
 use std::alloc::Global;
 
-/// The setup of a chain: one route of all its pipes, one core, and each packet of the trace bound to that route.
+/// The setup of a chain: one route of all its pipes, one core, and each packet of the trace bound to that route. No pipe changes,
+/// and loss words go by packet.
 pub fn chain_setup(alloc: Global, order: &ChainOrder, trace: &Trace) -> Result<Setup, NoMemory>
     requires order { IsOrder order.now }
     requires trace { IsTrace trace.now }
@@ -42,6 +43,8 @@ fn chain_parts(alloc: Global, order: &ChainOrder, trace: &Trace) -> Result<Setup
         owners: vec![in alloc; 0u32; order.pipes.len()]?,
         routes,
         packets: packet_plans(alloc, packets, base_ns, order.tick_ns)?,
+        changes: Vec::new(alloc),
+        loss: LossBy::Packet,
     })
 }
 

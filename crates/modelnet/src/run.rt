@@ -8,8 +8,8 @@ ghost use Rattle.modelnet.specs.Run.{IsChainRun, SaysRun};
 
 use crate::chain_setup::chain_setup;
 use crate::order::ChainOrder;
+use journal::fates;
 use journal::laws::outputs_fit;
-use journal::{fates, journal};
 use mn_base::limits::TRACE_BYTES_MAX;
 use mn_base::{Bytes, NoMemory, Refusal};
 use pcap_io::{Packet, PcapFault, Trace, read_pcap};
@@ -46,7 +46,7 @@ pub fn chain_texts(
     Ok(texts)
 }
 
-/// Runs a chain on a trace: the journal of its setup, and the texts of what came of it.
+/// Runs a chain on a trace: the fates of its packets, and the texts of what came of them.
 fn run_chain(alloc: Global, order: &ChainOrder, trace: Trace) -> Result<Texts, NoMemory>
     requires order { IsOrder order.now }
     requires trace { IsTrace trace }
@@ -55,10 +55,9 @@ fn run_chain(alloc: Global, order: &ChainOrder, trace: Trace) -> Result<Texts, N
 {
     let setup = chain_setup(alloc, order, &trace)?;
     outputs_fit(&setup);
-    let visits = journal(alloc, &setup)?;
     let fates = fates(alloc, &setup)?;
     let bytes = packet_bytes(alloc, trace.into_packets())?;
-    let outcome = gather(alloc, &setup, &visits, &fates, bytes)?;
+    let outcome = gather(alloc, &setup, &fates, bytes)?;
     let report = print_report(alloc, &outcome, &[])?;
     let Outcome { leaving, .. } = outcome;
     let out = out_trace(alloc, &setup, leaving)?;

@@ -6,8 +6,7 @@ new-requires c =
     let s = is_setup c.args.order.now c.args.trace.now c.in_ok-parts.parts c.requires.order
     c.requires.trace c.requires.times c.in_ok-parts.ensures in
     record {
-      tick_least = s.tick_least;
-      tick_most = s.tick_most;
+      tick = s.tick;
       link_type = s.link_type;
       cores_least = s.cores_least;
       cores_most = s.cores_most;
@@ -22,6 +21,8 @@ new-requires c =
       lens_most = s.lens_most;
       packet_routes = s.packet_routes;
       packet_cores = s.packet_cores;
+      changes_rise = s.changes_rise;
+      changes_named = s.changes_named;
       entries_fit = s.entries_fit;
       times_fit = s.times_fit;
       delays_fit = s.delays_fit;

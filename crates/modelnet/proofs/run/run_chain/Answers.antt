@@ -1,6 +1,7 @@
-use Rattle.std.proofs.Common.{length, map, sym, ◌∙◌, ap, subst}
+use Rattle.std.proofs.Common.{length, map, refl, sym, ◌∙◌, ap, subst}
 use Rattle.std.proofs.lemmas.List.{length-map}
 use Rattle.pcap_io.specs.Capture.{trace_base}
+use Rattle.journal.specs.Journal.{journal_of}
 use Rattle.modelnet.proofs.ChainSetup.{is_setup, length-plans}
 use Rattle.modelnet.proofs.Outputs.{CanBeWritten, can_be_written}
 use Rattle.modelnet.proofs.run.run_chain.Goals as goal
@@ -13,8 +14,7 @@ gather-requires-clause-bytes c =
 pub out_trace-requires : goal.out_trace-requires
 out_trace-requires c =
     let setup = is_setup c.args.order.now c.args.trace c.in_ok-setup.setup c.requires.order c.requires.trace c.requires.times c.in_ok-setup.ensures in
-    let visits_are = c.deref.ensures.value ∙ c.in_ok-visits.ensures.journal in
     let bytes_are = c.in_ok-bytes.ensures ∙ ap (λ ps. map (λ p. p.bytes) ps) c.into_packets.ensures.value in
-    let written = can_be_written c.in_ok-setup.setup c.deref.result.now c.in_ok-bytes.bytes.items c.in_ok-outcome.outcome c.args.trace setup c.outputs_fit.ensures visits_are bytes_are c.requires.trace c.in_ok-outcome.ensures.outcome in
+    let written = can_be_written c.in_ok-setup.setup (journal_of c.in_ok-setup.setup) c.in_ok-bytes.bytes.items c.in_ok-outcome.outcome c.args.trace setup c.outputs_fit.ensures refl bytes_are c.requires.trace c.in_ok-outcome.ensures.outcome in
     let here = subst (λ ls. CanBeWritten c.in_ok-setup.setup ls) (sym (ap (λ o. o.leaving) c.outcome.view_is)) written in
     record { of_setup = here.of_setup; different = here.different; lengths = here.lengths; times = here.times }
