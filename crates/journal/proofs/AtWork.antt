@@ -9,7 +9,7 @@ use Rattle.mn_base.specs.declared.params.PipeParams.{PipeParams}
 use Rattle.loss_words.specs.Word.{loss_word}
 use Rattle.loss_words.specs.PipeWordsView.{PipeWordsView}
 use Rattle.loss_words.proofs.WordLemmas.{loss_word-bound}
-use Rattle.pipe.specs.declared.due.Due.{Due}
+use Rattle.mn_base.specs.declared.due.Due.{Due}
 use Rattle.pipe.specs.declared.step.Step.{Step}
 use Rattle.pipe.specs.Finishes.{PastVisit}
 use Rattle.pipe.specs.Params.{last_params}

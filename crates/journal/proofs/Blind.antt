@@ -1,7 +1,7 @@
 -- By arrival, what comes of a visit is decided by the ticks and lengths of the visits to its pipe.
 use Rattle.std.proofs.Common.{◌≡◌, ℕ, Bool, nat_le, List, [], ◌∷◌, ◌++◌, length, map, refl, sym, ap, ap₂, ◌∙◌}
 use Rattle.mn_base.specs.declared.params.PipeParams.{PipeParams}
-use Rattle.pipe.specs.declared.due.Due.{Due}
+use Rattle.mn_base.specs.declared.due.Due.{Due}
 use Rattle.pipe.specs.declared.step.Step.{Step}
 use Rattle.pipe.specs.Finishes.{PastVisit}
 use Rattle.pipe.specs.Steps.{step_at}

@@ -3,8 +3,8 @@ use Rattle.std.proofs.Common.{◌≡◌, ◌⊎◌, inl, inr, ℕ, ◌+◌, ◌-
 use Rattle.std.proofs.lemmas.Bool.{cases_order}
 use Rattle.std.proofs.lemmas.List.Sums.{sum_by-cons, sum_by-le-sum_by}
 use Rattle.mn_base.specs.Among.{Among}
-use Rattle.pipe.specs.declared.due.Due.{Due}
-use Rattle.pipe.specs.Dues.{Before}
+use Rattle.mn_base.specs.declared.due.Due.{Due}
+use Rattle.mn_base.specs.Canonical.{Before}
 use Rattle.pipe.specs.Scheme.{Rises}
 use Rattle.journal.specs.declared.setup.PacketPlan.{PacketPlan}
 use Rattle.journal.specs.declared.visit.Visit.{Visit}

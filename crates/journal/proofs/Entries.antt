@@ -8,7 +8,7 @@ use Rattle.std.specs.BTreeMap.{insert_entry}
 use Rattle.std.proofs.lemmas.Cmp.{ranked}
 use Rattle.mn_base.specs.Among.{Among}
 use Rattle.journal.specs.declared.due_visits.DueVisit.{DueVisit}
-use Rattle.pipe.specs.Dues.{Before}
+use Rattle.mn_base.specs.Canonical.{Before}
 use Rattle.journal.specs.Entries.{due_from_entry}
 use Rattle.journal.specs.Held.{plain, HasNone, TakesVisit}
 use Rattle.mn_base.proofs.Members.{Among-map, Among-from-map, All-Among}

@@ -5,7 +5,7 @@ use Rattle.std.proofs.lemmas.List.{length-map}
 use Rattle.std.proofs.lemmas.List.Sums.{sum_by-le}
 use Rattle.mn_base.specs.Among.{Among}
 use Rattle.mn_base.specs.declared.limits.TheConstants.{PACKETS_MAX}
-use Rattle.pipe.specs.Dues.{Before}
+use Rattle.mn_base.specs.Canonical.{Before}
 use Rattle.pipe.specs.Scheme.{Rises}
 use Rattle.journal.specs.declared.setup.PacketPlan.{PacketPlan}
 use Rattle.journal.specs.declared.visit.Visit.{Visit}

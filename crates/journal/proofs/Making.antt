@@ -6,9 +6,9 @@ use Rattle.std.proofs.lemmas.List.Sums.{sum_by-le}
 use Rattle.std.proofs.lemmas.Option.{slice_get_within}
 use Rattle.mn_base.specs.Among.{Among}
 use Rattle.mn_base.specs.declared.limits.TheConstants.{PACKETS_MAX, ROUTE_PIPES_MAX, TIME_NS_END}
-use Rattle.pipe.specs.declared.due.Due.{Due}
+use Rattle.mn_base.specs.declared.due.Due.{Due}
 use Rattle.pipe.specs.declared.step.Step.{Step}
-use Rattle.pipe.specs.Dues.{Before}
+use Rattle.mn_base.specs.Canonical.{Before}
 use Rattle.pipe.specs.Scheme.{TakesFirst, AddsNext}
 use Rattle.journal.specs.declared.setup.PacketPlan.{PacketPlan}
 use Rattle.journal.specs.declared.visit.Visit.{Visit}

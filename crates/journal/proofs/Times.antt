@@ -7,7 +7,7 @@ use Rattle.std.proofs.lemmas.List.Sums.{sum_by-cons}
 use Rattle.mn_base.specs.Among.{Among}
 use Rattle.mn_base.specs.Units.{transmission}
 use Rattle.pipe.specs.declared.step.Step.TheVariants.{Pass}
-use Rattle.pipe.specs.declared.due.Due.{Due}
+use Rattle.mn_base.specs.declared.due.Due.{Due}
 use Rattle.pipe.specs.Finishes.{PastVisit}
 use Rattle.pipe.specs.Scheme.{Rises}
 use Rattle.pipe.proofs.Bounds.{transmission-mono}

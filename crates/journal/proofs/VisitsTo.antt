@@ -4,7 +4,7 @@ use Rattle.std.proofs.lemmas.Bool.{cases_eq, cases_lt, ne_eqb}
 use Rattle.std.proofs.lemmas.List.{map-append, length_push, get_or_push, get_or_append_left}
 use Rattle.std.proofs.lemmas.List.Elements.{filter-append}
 use Rattle.mn_base.specs.Among.{Among}
-use Rattle.pipe.specs.declared.due.Due.{Due}
+use Rattle.mn_base.specs.declared.due.Due.{Due}
 use Rattle.pipe.specs.declared.step.Step.{Step}
 use Rattle.pipe.specs.Finishes.{PastVisit}
 use Rattle.pipe.specs.PipeView.{StandsFor, last_tick}

@@ -1,9 +1,9 @@
 -- The due visits that the maker of the journal holds, each with the index of its packet.
 use Rattle.std.specs.Prelude.{◌≡◌, ◌≢◌, ◌⊎◌, ◌↔◌, ℕ, ◌+◌, ◌<◌, List, length, map, Some, slice_get}
 use Rattle.mn_base.specs.Among.{Among}
-use Rattle.pipe.specs.declared.due.Due.{Due}
+use Rattle.mn_base.specs.declared.due.Due.{Due}
 use Rattle.pipe.specs.declared.step.Step.{Step}
-use Rattle.pipe.specs.Dues.{Before}
+use Rattle.mn_base.specs.Canonical.{Before}
 use Rattle.pipe.specs.Scheme.{HoldsPending, IsGrowingBy}
 use Rattle.journal.specs.declared.setup.PacketPlan.{PacketPlan}
 use Rattle.journal.specs.declared.visit.Visit.{Visit}

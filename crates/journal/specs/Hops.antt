@@ -1,6 +1,6 @@
 -- Which visits of a packet are due: its first, and the next hop after each visit that passed.
 use Rattle.std.specs.Prelude.{ℕ, ◌+◌, nat_lt, length, Option, Some, None, slice_index, if◌then◌else◌}
-use Rattle.pipe.specs.declared.due.Due.{Due}
+use Rattle.mn_base.specs.declared.due.Due.{Due}
 use Rattle.pipe.specs.declared.step.Step.{Step}
 use Rattle.pipe.specs.declared.step.Step.TheVariants.{Lost, Full, Pass}
 use Rattle.journal.specs.declared.setup.PacketPlan.{PacketPlan}

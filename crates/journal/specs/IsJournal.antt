@@ -1,6 +1,6 @@
 -- What a journal is: a list of all visits of a setup's packets to its pipes, each with what comes of it. No core occurs in it.
 use Rattle.std.specs.Prelude.{List, filter_map}
-use Rattle.pipe.specs.declared.due.Due.{Due}
+use Rattle.mn_base.specs.declared.due.Due.{Due}
 use Rattle.pipe.specs.Scheme.{Scheme, dues_by, IsJournalBy}
 use Rattle.journal.specs.declared.visit.Visit.{Visit}
 use Rattle.journal.specs.SetupView.{SetupView}

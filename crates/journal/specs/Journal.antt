@@ -1,6 +1,6 @@
 -- The journal of a setup, grown by the least visit that is pending, again and again.
 use Rattle.std.specs.Prelude.{ℕ, List, [], length, sum_by}
-use Rattle.pipe.specs.declared.due.Due.{Due}
+use Rattle.mn_base.specs.declared.due.Due.{Due}
 use Rattle.pipe.specs.Scheme.{pending_by, grown_by}
 use Rattle.journal.specs.declared.visit.Visit.{Visit}
 use Rattle.journal.specs.SetupView.{SetupView, route_of}

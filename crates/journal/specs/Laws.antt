@@ -5,10 +5,10 @@ use Rattle.mn_base.specs.Units.{latency_in_ticks}
 use Rattle.mn_base.specs.Times.{output_time}
 use Rattle.mn_base.specs.Ranges.{IsTickLength}
 use Rattle.mn_base.specs.declared.limits.TheConstants.{ROUTE_PIPES_MAX, TIME_NS_END, ROUTE_DELAY_NS_END, RECORD_NS_END}
-use Rattle.pipe.specs.declared.due.Due.{Due}
+use Rattle.mn_base.specs.declared.due.Due.{Due}
 use Rattle.pipe.specs.declared.step.Step.TheVariants.{Pass}
 use Rattle.pipe.specs.Finishes.{PastVisit}
-use Rattle.pipe.specs.Dues.{Before}
+use Rattle.mn_base.specs.Canonical.{Before}
 use Rattle.pipe.specs.Scheme.{IsGrowingBy}
 use Rattle.journal.specs.declared.setup.PacketPlan.{PacketPlan}
 use Rattle.journal.specs.declared.setup.LossBy.TheVariants.{Arrival}

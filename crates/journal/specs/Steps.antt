@@ -1,6 +1,6 @@
 -- What comes of a due visit, by the earlier visits to its pipe. No core occurs in it.
 use Rattle.std.specs.Prelude.{ℕ, ◌==◌, nat_le, Bool, List, length, filter, map}
-use Rattle.pipe.specs.declared.due.Due.{Due}
+use Rattle.mn_base.specs.declared.due.Due.{Due}
 use Rattle.pipe.specs.declared.step.Step.{Step}
 use Rattle.pipe.specs.Finishes.{PastVisit}
 use Rattle.pipe.specs.Steps.{step_at}

@@ -3,8 +3,7 @@ ghost use Rattle.mn_base.specs.Among.{Among};
 ghost use Rattle.journal.specs.declared.due_visits.DueVisit.{DueVisit};
 ghost use Rattle.journal.specs.Held.{HasNone, TakesVisit};
 
-use mn_base::NoMemory;
-use pipe::Due;
+use mn_base::{Due, NoMemory};
 use std::alloc::Global;
 use std::collections::BTreeMap;
 use std::marker::Model;

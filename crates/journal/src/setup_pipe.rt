@@ -9,8 +9,8 @@ use crate::lazy_words::LazyWords;
 use crate::setup::{LossBy, PacketPlan, PipeChange, Setup};
 use crate::steps::packet_len;
 use mn_base::limits::{KEEP_MAX, PACKETS_MAX, TIME_NS_END};
-use mn_base::{NoMemory, PipeParams};
-use pipe::{Due, Pipe, Step};
+use mn_base::{Due, NoMemory, PipeParams};
+use pipe::{Pipe, Step};
 use std::alloc::Global;
 use std::marker::Model;
 

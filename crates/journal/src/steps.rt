@@ -6,8 +6,9 @@ ghost use Rattle.journal.specs.SetupView.{packet_of, route_of, len_of};
 ghost use Rattle.journal.specs.Hops.{entry, hop_after};
 
 use crate::setup::{PacketPlan, Setup};
+use mn_base::Due;
 use mn_base::limits::{PACKET_BYTES_MAX, ROUTE_PIPES_MAX};
-use pipe::{Due, Step};
+use pipe::Step;
 
 pub use crate::setup_pipe::{SetupPipe, idle_pipe};
 

@@ -2,8 +2,8 @@
 use Rattle.std.proofs.Common.{◌≡◌, ◌⊎◌, inl, inr, ⊎_elim, ℕ, zero, suc, ◌+◌, ◌<◌, ◌≤◌, Bool, true, false, ◌&&◌, ◌==◌, List, [], ◌∷◌, ◌++◌, map, Some, refl, sym, ap, ◌∙◌, subst, arith, true≢false, eq-eqb, eqb-true}
 use Rattle.std.proofs.lemmas.Bool.{and_from, and_parts, cases_order, cases_lt}
 use Rattle.mn_base.specs.Among.{Among}
-use Rattle.pipe.specs.declared.due.Due.{Due}
-use Rattle.pipe.specs.Dues.{Before}
+use Rattle.mn_base.specs.declared.due.Due.{Due}
+use Rattle.mn_base.specs.Canonical.{Before}
 use Rattle.pipe.specs.Scheme.{Scheme, dues_by, Rises, AreMade, IsJournalBy, is_done_by, IsGrowingBy, IsOrderly}
 use Rattle.mn_base.proofs.Members.{Among-append-left, Among-last, Among-push, Among-map, Among-from-map, list_any-true, Among-from-list_any, split_push}
 use Rattle.pipe.proofs.CanonicalOrder.{before-either, before-tick}

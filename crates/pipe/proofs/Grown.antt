@@ -3,7 +3,7 @@ use Rattle.std.proofs.Common.{◌≡◌, ℕ, zero, suc, ◌+◌, ◌≤◌, Boo
 use Rattle.std.proofs.lemmas.Bool.{not-true, not_from_false}
 use Rattle.std.proofs.lemmas.List.{length_push}
 use Rattle.mn_base.specs.Among.{Among}
-use Rattle.pipe.specs.declared.due.Due.{Due}
+use Rattle.mn_base.specs.declared.due.Due.{Due}
 use Rattle.pipe.specs.Dues.{least}
 use Rattle.pipe.specs.Scheme.{Scheme, dues_by, IsJournalBy, is_done_by, pending_by, more_by, grown_by, IsGrowingBy, IsOrderly}
 use Rattle.mn_base.proofs.Members.{Among-filter, Among-from-filter}

@@ -1,8 +1,8 @@
 -- Lists of visits that rise in the canonical order, and where a due visit comes from.
 use Rattle.std.proofs.Common.{◌≡◌, ◌⊎◌, inl, inr, ⊎_elim, zero, suc, ◌<◌, List, [], ◌∷◌, ◌++◌, filter_map, Some, AllPairs, refl, slice_index_or, sym, ap, ◌∙◌, subst, arith}
 use Rattle.mn_base.specs.Among.{Among}
-use Rattle.pipe.specs.declared.due.Due.{Due}
-use Rattle.pipe.specs.Dues.{Before}
+use Rattle.mn_base.specs.declared.due.Due.{Due}
+use Rattle.mn_base.specs.Canonical.{Before}
 use Rattle.pipe.specs.Scheme.{Scheme, dues_by, Rises, AreMade, IsOrderly}
 use Rattle.mn_base.proofs.Members.{Among-append-left, Among-append-right, Among-append, Among-filter_map, Among-from-filter_map, Among-place, split_at}
 use Rattle.pipe.proofs.CanonicalOrder.{before-irreflexive, before-asymmetric}

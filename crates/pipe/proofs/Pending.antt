@@ -2,8 +2,8 @@
 -- pending after that visit. Where the list is empty, the visits made are a journal.
 use Rattle.std.proofs.Common.{◌≡◌, ◌⊎◌, inl, inr, ⊎_elim, ◌+◌, ◌<◌, ◌≤◌, Bool, true, false, List, [], ◌∷◌, ◌++◌, Some, refl, sym, ap, ◌∙◌, subst, arith, true≢false}
 use Rattle.mn_base.specs.Among.{Among}
-use Rattle.pipe.specs.declared.due.Due.{Due}
-use Rattle.pipe.specs.Dues.{Before}
+use Rattle.mn_base.specs.declared.due.Due.{Due}
+use Rattle.mn_base.specs.Canonical.{Before}
 use Rattle.pipe.specs.Scheme.{Scheme, dues_by, IsJournalBy, is_done_by, pending_by, IsGrowingBy, IsOrderly, HoldsPending, TakesFirst, AddsNext}
 use Rattle.mn_base.proofs.Members.{Among-last, Among-push}
 use Rattle.pipe.proofs.CanonicalOrder.{before-irreflexive, before-asymmetric, before-tick}

@@ -1,14 +1,7 @@
--- Due visits in the canonical order, and the least of a list of them.
-use Rattle.std.specs.Prelude.{◌≡◌, ◌⊎◌, ◌<◌, ◌==◌, nat_lt, Bool, ◌&&◌, ◌||◌, List, [], ◌∷◌, Option, Some, None, if◌then◌else◌}
-use Rattle.pipe.specs.declared.due.Due.{Due}
-
--- the canonical order: by tick, then by packet number
-abbrev pub Before : Due → Due → Type 0
-Before x y = (x.tick < y.tick) ⊎ ((x.tick ≡ y.tick) × (x.packet < y.packet))
-
--- the same, as a test
-abbrev pub is_before : Due → Due → Bool
-is_before x y = nat_lt x.tick y.tick || ((x.tick == y.tick) && nat_lt x.packet y.packet)
+-- The least of a list of due visits.
+use Rattle.std.specs.Prelude.{List, [], ◌∷◌, Option, Some, None, if◌then◌else◌}
+use Rattle.mn_base.specs.declared.due.Due.{Due}
+use Rattle.mn_base.specs.Canonical.{is_before}
 
 abbrev pub lesser : Due → Option Due → Due
 lesser x None = x

@@ -3,8 +3,9 @@
 use Rattle.std.specs.Prelude.{false, ◌≡◌, ℕ, zero, suc, ◌+◌, ◌<◌, ◌==◌, Bool, ◌&&◌, not, List, [], ◌∷◌, ◌++◌, map, filter, filter_map, Option, Some, None, ◌⊎◌, ◌↔◌}
 use Rattle.std.specs.List.{list_any}
 use Rattle.mn_base.specs.Among.{Among}
-use Rattle.pipe.specs.declared.due.Due.{Due}
-use Rattle.pipe.specs.Dues.{Before, least}
+use Rattle.mn_base.specs.declared.due.Due.{Due}
+use Rattle.mn_base.specs.Canonical.{Before}
+use Rattle.pipe.specs.Dues.{least}
 
 pub record Scheme (V : Type 0) : Type 0 where
   -- the visits that are due before any visit is made

@@ -3,12 +3,10 @@
 //! Its contracts speak of `step_at` (specs/Steps.antt), for each list that a pipe stands for (specs/PipeView.antt).
 #![tactic(auto)]
 
-mod due;
 mod in_force;
 mod step;
 mod visits;
 
-pub use due::Due;
 pub use step::Step;
 pub use visits::Pipe;
 

@@ -5,10 +5,10 @@ use Rattle.std.proofs.lemmas.Bool.{le-ltb, lt-ltb}
 use Rattle.mn_base.specs.Among.{Among}
 use Rattle.mn_base.specs.declared.causes.Cause.TheVariants.{Loss, Full as QueueFull}
 use Rattle.mn_base.proofs.Members.{Among-from-map}
-use Rattle.pipe.specs.declared.due.Due.{Due}
+use Rattle.mn_base.specs.declared.due.Due.{Due}
 use Rattle.pipe.specs.declared.step.Step.{Step}
 use Rattle.pipe.specs.declared.step.Step.TheVariants.{Lost, Full, Pass}
-use Rattle.pipe.specs.Dues.{Before}
+use Rattle.mn_base.specs.Canonical.{Before}
 use Rattle.pipe.specs.Scheme.{Rises}
 use Rattle.pipe.proofs.CanonicalOrder.{before-irreflexive}
 use Rattle.pipe.proofs.Origins.{due_from-first, due_from-visit}
