@@ -135,6 +135,7 @@ module _ (S : SetupView) where
   fates-bare = ap (λ (J : List Visit). map (fate_after J) (map coreless S.packets)) journal-bare ∙ plain (journal_of S) S.packets
 
 pub cores_do_not_matter : CoresDoNotMatter
-cores_do_not_matter S R same =
-    (sym (journal-bare S) ∙ ap journal_of same ∙ journal-bare R,
-    sym (fates-bare S) ∙ ap (λ (T : SetupView). map (fate_of T) T.packets) same ∙ fates-bare R)
+cores_do_not_matter S R same = (
+  sym (journal-bare S) ∙ ap journal_of same ∙ journal-bare R,
+  sym (fates-bare S) ∙ ap (λ (T : SetupView). map (fate_of T) T.packets) same ∙ fates-bare R,
+)

@@ -94,7 +94,7 @@ module _ (S : SetupView) (least : TICK_NS_MIN ≤ S.tick_ns) (most : S.tick_ns �
       go : (b : Bool)
           → AreShort S.tick_ns 40950020000000 (map (λ c. (c.tick, c.params)) (filter (λ c. c.pipe == pipe) changes))
           → AreShort S.tick_ns 40950020000000
-            (map (λ c. (c.tick, c.params)) (cond b (c ∷ filter (λ c. c.pipe == pipe) changes) (filter (λ c. c.pipe == pipe) changes)))
+          (map (λ c. (c.tick, c.params)) (cond b (c ∷ filter (λ c. c.pipe == pipe) changes) (filter (λ c. c.pipe == pipe) changes)))
       go false rest = rest
       go true rest =
           short-cons S.tick_ns 40950020000000 (c.tick, c.params) (map (λ c. (c.tick, c.params)) (filter (λ c. c.pipe == pipe) changes))

@@ -58,8 +58,7 @@ impl DueVisits {
         requires { HasNone self.old next.due.packet }
         ensures { OnOk result ((w : DueVisit) → Among w self.new ↔ ((next ≡ w) ⊎ Among w self.old)) }
     {
-        self.visits
-            .insert((next.due.tick, next.due.packet), (next.due.hop, next.index))?;
+        self.visits.insert((next.due.tick, next.due.packet), (next.due.hop, next.index))?;
         Ok(())
     }
 }

@@ -20,3 +20,6 @@ pub use maker::journal;
 pub use packet_fates::fates;
 pub use setup::{LossBy, PacketPlan, PipeChange, Setup, SetupParts};
 pub use visit::Visit;
+
+#[cfg(test)]
+mod tests;

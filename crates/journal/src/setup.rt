@@ -4,7 +4,10 @@ ghost use Rattle.journal.specs.IsSetup.{IsSetup, IsChangeBefore, longest_way};
 ghost use Rattle.journal.specs.SetupView.{packet_of};
 
 use mn_base::PipeParams;
-use mn_base::limits::{CORES_MAX, OUTPUT_NS_END, PACKET_BYTES_MAX, PACKETS_MAX, PIPES_MAX, ROUTE_DELAY_NS_END, ROUTE_PIPES_MAX, TIME_NS_END};
+use mn_base::limits::{
+    CORES_MAX, OUTPUT_NS_END, PACKET_BYTES_MAX, PACKETS_MAX, PIPES_MAX, ROUTE_DELAY_NS_END,
+    ROUTE_PIPES_MAX, TIME_NS_END,
+};
 use std::marker::Model;
 
 /// One bound packet, as it enters.
@@ -99,7 +102,7 @@ pub struct Setup {
 impl Model for Setup {
     ghost use Rattle.journal.specs.SetupView.{SetupView};
     ghost use Rattle.mn_base.specs.Ranges.{IsTickLength, IsLinkType};
-ghost use Rattle.journal.specs.IsSetup.{IsSetup};
+    ghost use Rattle.journal.specs.IsSetup.{IsSetup};
 
     ghost Value = { SetupView };
 

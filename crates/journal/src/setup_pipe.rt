@@ -79,7 +79,7 @@ impl SetupPipe {
             → step ≡ step_of setup.now self.old.number due h) }
         ensures stands { OnOk result ((h : List PastVisit) → StandsFor self.old.memory h
             → StandsFor self.new.memory
-              (h ++ record { tick = due.tick; len = len_of setup.now due.packet; step = step_of setup.now self.old.number due h } ∷ [])) }
+            (h ++ record { tick = due.tick; len = len_of setup.now due.packet; step = step_of setup.now self.old.number due h } ∷ [])) }
 
         // It stays that pipe, and its last visit is this one.
         ensures of_setup { OnOk result (IsOfSetup setup.now self.new) }

@@ -27,8 +27,12 @@ loop-next-preserved c =
 pub loop-next-smaller : goal.loop-next-smaller
 loop-next-smaller c =
     let few = making-few (c.in_ok-visit.ensures.making c.loop-next.visits.items (to_make c)) in
-    omega (arith, few, ap length (made c),
-    length_push c.loop-next.visits.items (visit_of c.args.setup.now c.loop-next.visits.items c.in-Some.next.due))
+    omega (
+      arith,
+      few,
+      ap length (made c),
+      length_push c.loop-next.visits.items (visit_of c.args.setup.now c.loop-next.visits.items c.in-Some.next.due),
+    )
 
 pub returns-clause-journal : goal.returns-clause-journal
 returns-clause-journal c =
