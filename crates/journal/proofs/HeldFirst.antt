@@ -1,8 +1,9 @@
 -- How the first visits of packets come in.
-use Rattle.std.proofs.Common.{◌≡◌, ◌⊎◌, inl, inr, ⊎_elim, ℕ, ◌+◌, ◌<◌, ◌≤◌, List, [], ◌∷◌, length, map, Some, None, Result, Ok, Err, slice_get, slice_index_or, refl, sym, ap, ◌∙◌, subst, arith}
+use Rattle.std.proofs.Common.{◌≡◌, ◌⊎◌, inl, inr, ⊎_elim, ℕ, ◌+◌, ◌<◌, ◌≤◌, List, [], ◌∷◌, ◌++◌, length, map, AllPairs, Some, None, Result, Ok, Err, slice_get, slice_index_or, refl, sym, ap, ◌∙◌, subst, arith}
 use Rattle.std.specs.Prelude.{◌↔◌}
 use Rattle.std.specs.Result.{OnOk}
 use Rattle.std.proofs.lemmas.Bool.{cases_lt}
+use Rattle.std.proofs.lemmas.List.Quantifiers.{all_pairs_push}
 use Rattle.std.proofs.lemmas.Option.{slice_get_within, slice_get-get_or, get_or_from_slice_get}
 use Rattle.mn_base.specs.Among.{Among}
 use Rattle.mn_base.specs.declared.due.Due.{Due}
@@ -13,8 +14,8 @@ use Rattle.journal.specs.IsSetup.{IsSetup}
 use Rattle.journal.specs.Hops.{entry}
 use Rattle.journal.specs.IsJournal.{scheme_of}
 use Rattle.journal.specs.Journal.{pending}
-use Rattle.journal.specs.Held.{plain, HasNone, IsIndexed, IsFirstBelow, HaveEntered, IsHeld}
-use Rattle.mn_base.proofs.Members.{place_of, Among-map, Among-from-map}
+use Rattle.journal.specs.Held.{plain, IsIndexed, IsFirstBelow, HaveEntered, IsHeld}
+use Rattle.mn_base.proofs.Members.{place_of, Among-map, Among-from-map, Among-push, Among-last, Among-place, Among-append-left}
 use Rattle.pipe.proofs.Origins.{due_from-first}
 use Rattle.pipe.proofs.Grown.{pending_from, pending_parts}
 use Rattle.journal.proofs.Packets.{among-get}
@@ -91,10 +92,10 @@ entered-some S n old new p w h here first is_indexed adds = record {
 entry-packet : (S : SetupView) (p : PacketPlan) (x : Due) → Among p S.packets → entry S p ≡ Some x → x.packet ≡ p.number
 entry-packet S p x a e = ap (λ (d : Due). d.packet) (entry_parts S p x a e).is
 
--- no visit of a later packet is in yet
-pub entered-has_none : (S : SetupView) → IsSetup S → (n : ℕ) (held : List DueVisit) (p : PacketPlan) (w : DueVisit) → HaveEntered S n held
-    → slice_get S.packets n ≡ Some p → Some w.due ≡ entry S p → HasNone held w.due.packet
-entered-has_none S is n held p w h here first u a same =
+-- the packets of the visits that are in are below a later one
+pub entered-below : (S : SetupView) → IsSetup S → (n : ℕ) (held : List DueVisit) (p : PacketPlan) (w : DueVisit) → HaveEntered S n held
+    → slice_get S.packets n ≡ Some p → Some w.due ≡ entry S p → (u : DueVisit) → Among u held → u.due.packet < w.due.packet
+entered-below S is n held p w h here first u a =
     let f = h.first u a in
     let below : f.index < n = f.below in
     let rises : (slice_index_or S.packets f.index p).number < (slice_index_or S.packets n p).number =
@@ -104,7 +105,34 @@ entered-has_none S is n held p w h here first u a same =
     let high : (slice_index_or S.packets n p).number ≡ p.number = ap (λ (q : PacketPlan). q.number) (get_or_from_slice_get S.packets n p p here) in
     let mine : u.due.packet ≡ f.plan.number = entry-packet S f.plan u.due (among-get S.packets f.index f.plan f.at) f.due in
     let yours : w.due.packet ≡ p.number = entry-packet S p w.due (among-get S.packets n p here) (sym first) in
-    omega (arith, rises, low, high, mine, yours, same)
+    omega (arith, rises, low, high, mine, yours)
+
+-- so the numbers rise with one visit more
+pub entered-rising : (S : SetupView) → IsSetup S → (n : ℕ) (held : List DueVisit) (p : PacketPlan) (w : DueVisit) → HaveEntered S n held
+    → slice_get S.packets n ≡ Some p → Some w.due ≡ entry S p → AllPairs (λ u v. u.due.packet < v.due.packet) held
+    → AllPairs (λ u v. u.due.packet < v.due.packet) (held ++ w ∷ [])
+entered-rising S is n held p w h here first rising =
+    all_pairs_push (λ (u : DueVisit) v. u.due.packet < v.due.packet) held w rising
+    (λ k d within. entered-below S is n held p w h here first (slice_index_or held k d) (Among-place held k d within))
+
+-- the visit that is put behind the others
+pub pushed-among : (held : List DueVisit) (w other : DueVisit) → Among other (held ++ w ∷ []) ↔ ((w ≡ other) ⊎ Among other held)
+pushed-among held w other = (
+  λ a. ⊎_elim (λ b. inr b) (λ e. inl e) (Among-push other held w a),
+  λ a. ⊎_elim (λ e. subst (λ v. Among v (held ++ w ∷ [])) e (Among-last w held)) (λ b. Among-append-left other held (w ∷ []) b) a,
+)
+
+-- what holds of a list of held visits holds of each with the same members
+pub held-same : (S : SetupView) (a b : List DueVisit) → ((w : DueVisit) → Among w b ↔ Among w a) → IsHeld S [] a → IsHeld S [] b
+held-same S a b same h = record {
+  indexed = λ w among. h.indexed w ((same w).0 among);
+  pending = λ x. (λ among. (h.pending x).0 (moved x b a (λ w c. (same w).0 c) among), λ among. moved x a b (λ w c. (same w).1 c) ((h.pending x).1 among));
+}
+  where
+    moved : (x : Due) (xs ys : List DueVisit) → ((w : DueVisit) → Among w xs → Among w ys) → Among x (map plain xs) → Among x (map plain ys)
+    moved x xs ys into among =
+        let s = Among-from-map plain x xs among in
+        subst (λ d. Among d (map plain ys)) s.2 (Among-map plain s.0 ys (into s.0 s.1))
 
 -- all first visits are what is pending before any visit
 pub held_from-entered : (S : SetupView) (n : ℕ) (held : List DueVisit) → HaveEntered S n held → length S.packets ≤ n → IsHeld S [] held

@@ -4,10 +4,10 @@ pub mod Blind
 pub mod Count
 pub mod Delays
 pub mod Ends
-pub mod Entries
 pub mod FatesSoFar
 pub mod FewVisits
 pub mod HeldFirst
+pub mod HeldOrder
 pub mod Making
 pub mod Meets
 pub mod Numbers

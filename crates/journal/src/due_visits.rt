@@ -1,11 +1,13 @@
-ghost use Rattle.std.specs.Prelude.{◌≡◌, ◌⊎◌, ◌↔◌, [], IfNone, IfSome, OnOk};
+ghost use Rattle.std.specs.Prelude.{◌≡◌, ◌⊎◌, ◌↔◌, ◌<◌, [], AllPairs, IfNone, IfSome, OnOk};
 ghost use Rattle.mn_base.specs.Among.{Among};
 ghost use Rattle.journal.specs.declared.due_visits.DueVisit.{DueVisit};
+ghost use Rattle.journal.specs.Entries.{due_from_entry, comes_first, early_of};
 ghost use Rattle.journal.specs.Held.{HasNone, TakesVisit};
 
 use mn_base::{Due, NoMemory};
 use std::alloc::Global;
-use std::collections::BTreeMap;
+use std::cmp::Reverse;
+use std::collections::BinaryHeap;
 use std::marker::Model;
 
 /// A due visit, and the index of its packet in the setup.
@@ -15,29 +17,44 @@ pub(crate) struct DueVisit {
     pub index: u32,
 }
 
+/// A due visit as it is ordered: tick and packet, then hop and index.
+type Entry = ((u64, u32), (u32, u32));
+
 /// The due visits that aren't made yet. Of each packet there is one at most.
+///
+/// The first visits of packets are sorted once and taken one after the other. Beside them stands a heap of the later ones,
+/// which holds the packets that are on their way: it stays small where a trace is long.
 #[derive(Drop)]
 pub(crate) struct DueVisits {
-    visits: BTreeMap<(u64, u32), (u32, u32)>,
+    firsts: Vec<DueVisit>,
+    next: usize,
+    laters: BinaryHeap<Reverse<Entry>>,
 }
 
 impl Model for DueVisits {
-    ghost use Rattle.std.specs.Prelude.{List, map};
+    ghost use Rattle.std.specs.Prelude.{List};
     ghost use Rattle.journal.specs.declared.due_visits.DueVisit.{DueVisit};
 
     ghost Value = { List DueVisit };
 
-    ghost use Rattle.journal.specs.Entries.{due_from_entry};
+    ghost use Rattle.journal.specs.Entries.{held_visits, AreOrdered};
 
-    ghost view = { λ q. map due_from_entry q.visits.entries };
+    ghost view = { held_visits };
+
+    ghost invariant = { AreOrdered };
 }
 
 impl DueVisits {
-    pub(crate) fn new(alloc: Global) -> DueVisits
-        ensures { result ≡ [] }
+    /// These first visits, whose packets' numbers rise.
+    pub(crate) fn of_firsts(alloc: Global, mut firsts: Vec<DueVisit>) -> DueVisits
+        requires { AllPairs (λ v w. v.due.packet < w.due.packet) firsts.items }
+        ensures { (w : DueVisit) → Among w result ↔ Among w firsts.items }
     {
+        firsts.sort_unstable_by_key(|first| (first.due.tick, first.due.packet));
         DueVisits {
-            visits: BTreeMap::new(alloc),
+            firsts,
+            next: 0,
+            laters: BinaryHeap::new(alloc),
         }
     }
 
@@ -46,11 +63,14 @@ impl DueVisits {
         ensures none { IfNone result (self.old ≡ []) }
         ensures first { IfSome result (λ first. TakesVisit self.old first self.new) }
     {
-        let ((tick, packet), (hop, index)) = self.visits.pop_first()?;
-        Some(DueVisit {
-            due: Due { tick, packet, hop },
-            index,
-        })
+        let first = self.firsts.get(self.next).copied();
+        let later = self.laters.peek().copied();
+        if let Some(first) = early(first, later) {
+            self.next += 1;
+            return Some(first);
+        }
+        let Reverse(entry) = self.laters.pop()?;
+        Some(visit_of_entry(entry))
     }
 
     /// Puts in a visit of a packet of which there is none.
@@ -58,7 +78,41 @@ impl DueVisits {
         requires { HasNone self.old next.due.packet }
         ensures { OnOk result ((w : DueVisit) → Among w self.new ↔ ((next ≡ w) ⊎ Among w self.old)) }
     {
-        self.visits.insert((next.due.tick, next.due.packet), (next.due.hop, next.index))?;
+        let Due { tick, packet, hop } = next.due;
+        self.laters
+            .push(Reverse(((tick, packet), (hop, next.index))))?;
         Ok(())
     }
+}
+
+fn visit_of_entry(entry: Entry) -> DueVisit
+    ensures { result ≡ due_from_entry entry }
+{
+    let ((tick, packet), (hop, index)) = entry;
+    DueVisit {
+        due: Due { tick, packet, hop },
+        index,
+    }
+}
+
+/// The next first visit, if it is made before the least of the later ones.
+fn early(first: Option<DueVisit>, later: Option<Reverse<Entry>>) -> Option<DueVisit>
+    ensures { result ≡ early_of first later }
+{
+    let first = first?;
+    if comes_first(first, later) {
+        Some(first)
+    } else {
+        None
+    }
+}
+
+/// Whether a first visit is made before the least of the later ones, if there is any.
+fn comes_first(first: DueVisit, later: Option<Reverse<Entry>>) -> bool
+    ensures { result ≡ comes_first first later }
+{
+    let Some(Reverse(((tick, packet), _))) = later else {
+        return true;
+    };
+    !(tick < first.due.tick || tick == first.due.tick && packet < first.due.packet)
 }

@@ -1,4 +1,4 @@
-ghost use Rattle.std.specs.Prelude.{◌≡◌, ◌+◌, ◌≤◌, ◌<◌, ◌∷◌, ◌++◌, [], List, length, Some, slice_get, IfOk, IfSome, OnOk};
+ghost use Rattle.std.specs.Prelude.{AllPairs, ◌≡◌, ◌+◌, ◌≤◌, ◌<◌, ◌∷◌, ◌++◌, [], List, length, Some, slice_get, IfOk, IfSome, OnOk};
 ghost use Rattle.std.specs.Option.{option_map};
 ghost use Rattle.journal.specs.declared.setup.PacketPlan.{PacketPlan};
 ghost use Rattle.journal.specs.declared.visit.Visit.{Visit};
@@ -135,24 +135,26 @@ fn first_dues(alloc: Global, setup: &Setup) -> Result<DueVisits, NoMemory>
     ensures held { IfOk result (IsHeld setup.now []) }
     ensures setup { IsSetup setup.now }
 {
-    let mut due = DueVisits::new(alloc);
+    let mut firsts = Vec::new(alloc);
     for index in 0..setup.parts().packets.len() as u32 {
-        enter(setup, &mut due, index)?;
+        enter(setup, &mut firsts, index)?;
     }
-    Ok(due)
+    Ok(DueVisits::of_firsts(alloc, firsts))
 }
 
 /// Puts in the first visit of the packet at this index, if it has a route.
-fn enter(setup: &Setup, due: &mut DueVisits, index: u32) -> Result<(), NoMemory>
+fn enter(setup: &Setup, firsts: &mut Vec<DueVisit>, index: u32) -> Result<(), NoMemory>
     requires setup { IsSetup setup.now }
     requires within { index < length setup.now.packets }
-    requires entered { HaveEntered setup.now index due.old }
-    ensures { OnOk result (HaveEntered setup.now (index + 1) due.new) }
+    requires entered { HaveEntered setup.now index firsts.old.items }
+    requires rising { AllPairs (λ v w. v.due.packet < w.due.packet) firsts.old.items }
+    ensures entered { OnOk result (HaveEntered setup.now (index + 1) firsts.new.items) }
+    ensures rising { OnOk result (AllPairs (λ v w. v.due.packet < w.due.packet) firsts.new.items) }
 {
-    match first_visit(setup, index) {
-        Some(first) => due.add(first),
-        None => Ok(()),
+    if let Some(first) = first_visit(setup, index) {
+        firsts.push(first)?;
     }
+    Ok(())
 }
 
 /// The first visit of the packet at this index.

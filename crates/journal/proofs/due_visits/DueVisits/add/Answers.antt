@@ -1,10 +1,18 @@
-use Rattle.std.proofs.Common.{sym, subst}
+use Rattle.std.proofs.Common.{drop, sym, subst}
 use Rattle.journal.specs.Held.{HasNone}
-use Rattle.journal.proofs.Entries.{among-insert}
+use Rattle.journal.proofs.HeldOrder.{added-once, added-among}
 use Rattle.journal.proofs.due_visits.DueVisits.add.Goals as goal
+
+pub invariant_of-self-2 : goal.invariant_of-self-2
+invariant_of-self-2 c = record {
+  within = c.self.invariant.within;
+  rising = c.self.invariant.rising;
+  heap = c.in_ok-push.ensures.heap_order c.self.invariant.heap;
+  once = added-once c.self.inside.firsts.items c.self.inside.next c.self.inside.laters.data.items c.push.new.self.data.items _ c.self.invariant.once
+      (subst (λ held. HasNone held c.args.next.due.packet) (sym c.self.view_is) c.requires) c.in_ok-push.ensures.permutation;
+}
 
 pub returns : goal.returns
 returns c =
-    rw (← c.self.view_is, c.in_ok-insert.ensures.entries)
-    (λ other. among-insert (c.args.next.due.tick, c.args.next.due.packet) (c.args.next.due.hop, c.args.next.index) c.self.inside.visits.entries other
-    (subst (λ queue. HasNone queue c.args.next.due.packet) (sym c.self.view_is) c.requires))
+    rw (← c.self.view_is)
+    (added-among (drop c.self.inside.next c.self.inside.firsts.items) c.self.inside.laters.data.items c.push.new.self.data.items _ c.in_ok-push.ensures.permutation)
