@@ -18,8 +18,8 @@ use Rattle.std.proofs.lemmas.List.Sorted.{length_permutation, sorted_far, sum_by
 use Rattle.std.proofs.lemmas.List.Sums.{sum_by-cons, sum_by-append}
 use Rattle.mn_base.specs.Among.{Among}
 use Rattle.mn_base.proofs.Members.{All-Among, Among-place, Among-append, Among-append-left, Among-append-right}
-use Rattle.pipe.specs.declared.due.Due.{Due}
-use Rattle.pipe.specs.Dues.{Before, is_before}
+use Rattle.mn_base.specs.declared.due.Due.{Due}
+use Rattle.mn_base.specs.Canonical.{Before, is_before}
 use Rattle.pipe.proofs.CanonicalOrder.{before-transitive, before-either, not_before-transitive, is_before-true, is_before-false}
 use Rattle.journal.specs.declared.due_visits.DueVisit.{DueVisit}
 use Rattle.journal.specs.Entries.{Entry, due_from_entry, pair_cmp, top_cmp, later_visits, of_packet, comes_first, early_of}

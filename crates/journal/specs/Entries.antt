@@ -4,7 +4,7 @@ use Rattle.std.specs.declared.cmp.Ordering.{Ordering}
 use Rattle.std.specs.declared.cmp.Reverse.{Reverse}
 use Rattle.std.specs.Ordering.{nat_cmp, ordering_then}
 use Rattle.std.specs.BinaryHeap.{IsHeap, heap_items}
-use Rattle.pipe.specs.Dues.{Before, is_before}
+use Rattle.mn_base.specs.Canonical.{Before, is_before}
 use Rattle.journal.specs.declared.due_visits.DueVisit.{DueVisit}
 use Rattle.journal.specs.declared.due_visits.DueVisits.TheInside.{Inside}
 
