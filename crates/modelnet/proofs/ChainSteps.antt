@@ -18,13 +18,17 @@ use Rattle.modelnet.specs.TheCommands.{chain_refuses, chain_command}
 use Rattle.modelnet.proofs.OneAfterAnother.{Others, HasWritten, has_begun, has_read, stops_reading, refuses, has_made, has_written, stops_writing, is_done}
 use Rattle.modelnet.proofs.Sound.{chain_is_sound}
 
+-- nothing is refused before the trace is read
+nothing_refused : (status : Status) → chain_refuses [] status → ⊥
+nothing_refused status is = is
+
 -- the trace can't be read whole
 pub trace_stops : (limits : ReadLimits) (order : ChainView) (old new : Host) (status : Status) (name : List ℕ) → name ≡ order.trace
     → ReadsInput (input Trace name limits.trace) (old Trace) (new Trace) (Err status) → Others Trace old new → Answered
     (chain_command limits order) old new status
 trace_stops limits order old new status name named own others =
     let c = chain_command limits order in
-    stops_reading c [] (input Trace order.trace limits.trace) [] status old old new (has_begun c old (chain_is_sound limits order)) tt
+    stops_reading c [] (input Trace order.trace limits.trace) [] status old old new (has_begun c old nothing_refused) tt
     (subst (λ n. ReadsInput (input Trace n limits.trace) (old Trace) (new Trace) (Err status)) named own) others
 
 -- the trace was read whole
@@ -54,7 +58,7 @@ trace_refused limits order old new trace text refusal status read same first is 
     let c = chain_command limits order in
     let sound = chain_is_sound limits order in
     subst (Answered c old new) (sym is) (refuses c [] (input Trace order.trace limits.trace) [] trace
-    (trace_refusal refusal) old old new sound (has_begun c old sound) tt
+    (trace_refusal refusal) old old new sound (has_begun c old nothing_refused) tt
     (named_trace limits order trace old new read) read.others
     (refused_trace trace refusal (subst (λ t. IfFault refusal (PcapFirst t)) same first)))
 
@@ -86,7 +90,7 @@ has_run limits order trace out report old new run =
     let sound = chain_is_sound limits order in
     let says : SaysRun order trace out report = subst (λ t. SaysRun order t out report) run.same run.says in
     has_made c (trace_read limits order trace) (out ∷ report ∷ []) old new
-    (has_read c [] (input Trace order.trace limits.trace) [] trace old old new (has_begun c old sound) tt
+    (has_read c [] (input Trace order.trace limits.trace) [] trace old old new (has_begun c old nothing_refused) tt
     (named_trace limits order trace old new run.read) run.read.others
     (λ status refused. sound.never_both (trace ∷ []) [] (out ∷ report ∷ []) status refused says))
     says

@@ -4,8 +4,8 @@ use Rattle.mn_edge.specs.declared.role.Role.{Role}
 use Rattle.mn_edge.specs.Part.{Part}
 use Rattle.modelnet.specs.declared.status.Status.{Status}
 use Rattle.modelnet.specs.declared.status.Status.TheVariants.{Done, NoMemory, BadWords, BadTrace, ReadFault, WriteFault, TooLarge}
-use Rattle.modelnet.specs.Commands.{Host, Command, ReadInputs, WrittenOutputs, inputs_of, bytes_read, outputs_of, bytes_written, ReadsNot, WritesNot, AreRead, AreWritten, Stands, StopsAt, Passes, Answered}
-use Rattle.modelnet.specs.Exact.{IsSound, IsRefusal}
+use Rattle.modelnet.specs.Commands.{Host, Command, ReadInputs, WrittenOutputs, inputs_of, bytes_read, outputs_of, bytes_written, ReadsNot, WritesNot, AreRead, AreWritten, Stands, StopsAt, Passes, FewerPass, Answered}
+use Rattle.modelnet.specs.Exact.{Accepts, IsSound, IsRefusal}
 use Rattle.modelnet.specs.Roles.{Input, Output, WasRead, WasWritten, IsReadFault, IsTooLarge, IsWriteFault, ReadsInput, WritesOutput}
 
 -- a call on one role left every other as it was
@@ -156,15 +156,15 @@ pub record HasWritten (c : Command) (reads : ReadInputs) (writes : WrittenOutput
   pub says : c.writes (bytes_read reads) (bytes_written writes ++ later_bytes)
   pub stands : Stands reads writes old new
 
-nothing_passes : (c : Command) → IsSound c → Passes c []
-nothing_passes c sound [] back status is refused = sound.begins status refused
-nothing_passes c sound (x ∷ front) back status is refused = absurd cc
+nothing_passes : (c : Command) → Accepts c [] → Passes c []
+nothing_passes c accepts [] back status is refused = accepts status refused
+nothing_passes c accepts (x ∷ front) back status is refused = absurd cc
 
--- nothing was read yet
-pub has_begun : (c : Command) (host : Host) → IsSound c → HasRead c [] c.inputs host host
-has_begun c host sound = record {
+-- nothing was read yet, and nothing is refused before
+pub has_begun : (c : Command) (host : Host) → Accepts c [] → HasRead c [] c.inputs host host
+has_begun c host accepts = record {
   inputs = refl;
-  passes = nothing_passes c sound;
+  passes = nothing_passes c accepts;
   stands = record { read = tt; written = tt; others = λ role r w. refl };
 }
 
@@ -174,6 +174,20 @@ passes_push : (c : Command) (past : List (List ℕ)) (bytes : List ℕ) → Pass
 passes_push c past bytes passes fine front back status is refused =
     elim (split_last past bytes front back is) [
       | inl whole ↦ fine status (subst (λ b. c.refuses b status) whole refused)
+      | inr part ↦ passes front part.0 status part.1 refused
+    ]
+
+-- a list is no front of itself with an element more
+no_longer : {X : Type 0} (xs : List X) (x : X) (ys : List X) → xs ≡ xs ++ x ∷ ys → ⊥
+no_longer [] x ys is = cc
+no_longer (z ∷ xs) x ys is =
+    let rest : xs ≡ xs ++ x ∷ ys = cc in no_longer xs x ys rest
+
+-- fewer bytes than those that pass and one more pass
+fewer_push : (c : Command) (past : List (List ℕ)) (bytes : List ℕ) → Passes c past → FewerPass c (past ++ bytes ∷ [])
+fewer_push c past bytes passes front back next status is refused =
+    elim (split_last past bytes front (next ∷ back) is) [
+      | inl whole ↦ no_longer front next back (whole ∙ is)
       | inr part ↦ passes front part.0 status part.1 refused
     ]
 
@@ -248,13 +262,11 @@ refuses c reads at later bytes status old mid new sound so none own others (inr 
     by_kind (WriteFault role) is none_of = absurd none_of
     by_kind (TooLarge role) is none_of = absurd none_of
     by_kind (BadTrace fault) is none_of = record {
-      reads = reads;
-      at = at;
-      bytes = bytes;
+      reads = reads ++ (at, bytes) ∷ [];
       later = later;
-      inputs = so.inputs;
-      passes = so.passes;
-      refused = is;
+      inputs = so.inputs ∙ sym (inputs_push reads (at, bytes) later);
+      fewer = subst (FewerPass c) (sym (bytes_read_push reads (at, bytes))) (fewer_push c (bytes_read reads) bytes so.passes);
+      refused = subst (λ b. c.refuses b (BadTrace fault)) (sym (bytes_read_push reads (at, bytes))) is;
       stands = stands_read reads (at, bytes) old mid new so.stands none others own.0 own.1;
     }
 

@@ -78,7 +78,6 @@ chain_one_output order (trace ∷ []) (out ∷ report ∷ []) (out' ∷ report' 
 pub chain_is_sound : (limits : ReadLimits) (order : ChainView) → IsSound (chain_command limits order)
 chain_is_sound limits order = record {
   refusals = chain_refusals;
-  begins = λ status is. is;
   one_refusal = chain_one_refusal;
   never_both = chain_never_both order;
   one_output = chain_one_output order;

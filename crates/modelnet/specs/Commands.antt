@@ -78,6 +78,10 @@ pub record StopsAt (reads : ReadInputs) (writes : WrittenOutputs) (at : Role) (I
 abbrev pub Passes : Command → List (List ℕ) → Type 0
 Passes c bytes = (front back : List (List ℕ)) (status : Status) → bytes ≡ front ++ back → c.refuses front status → ⊥
 
+-- nothing refuses the bytes of fewer inputs
+abbrev pub FewerPass : Command → List (List ℕ) → Type 0
+FewerPass c bytes = (front back : List (List ℕ)) (next : List ℕ) (status : Status) → bytes ≡ front ++ next ∷ back → c.refuses front status → ⊥
+
 -- all inputs were read whole, all outputs hold what the command writes for them, and every other role is as at entry
 pub record IsDone (c : Command) (old new : Host) : Type 0 where
   pub reads : ReadInputs
@@ -87,16 +91,14 @@ pub record IsDone (c : Command) (old new : Host) : Type 0 where
   pub says : c.writes (bytes_read reads) (bytes_written writes)
   pub stands : Stands reads writes old new
 
--- the inputs up to one were read whole, and this answer refuses their bytes; no answer refuses those of fewer
+-- the first inputs were read whole, and this answer refuses their bytes; no answer refuses those of fewer
 pub record IsRefused (c : Command) (status : Status) (old new : Host) : Type 0 where
   pub reads : ReadInputs
-  pub at : Input
-  pub bytes : List ℕ
   pub later : List Input
-  pub inputs : c.inputs ≡ inputs_of reads ++ at ∷ later
-  pub passes : Passes c (bytes_read reads)
-  pub refused : c.refuses (bytes_read reads ++ bytes ∷ []) status
-  pub stands : Stands (reads ++ (at, bytes) ∷ []) [] old new
+  pub inputs : c.inputs ≡ inputs_of reads ++ later
+  pub fewer : FewerPass c (bytes_read reads)
+  pub refused : c.refuses (bytes_read reads) status
+  pub stands : Stands reads [] old new
 
 -- the host is stopped at an input, and the bytes of those before it are accepted
 pub record IsCutAtInput (c : Command) (role : Role) (IsCut : Input → Part → Part → Type 0) (old new : Host) : Type 0 where

@@ -15,17 +15,25 @@ IsOrNoMemory due answer = (answer ≡ due) ⊎ (answer ≡ NoMemory)
 abbrev pub IsQuiet : Role → Host → Host → Type 0
 IsQuiet role old new = Rose (old role).faults (new role).faults → ⊥
 
--- What the answer has to be where the bytes so far are accepted and these inputs are to be read. Where the host tells the bytes
--- of the next one and no call on it failed: more than its limit are too large; else what refuses them together with those so far
--- is the answer; and where nothing does, the later inputs decide. Where none is left and no call failed at all, it is Done.
+-- what refuses these bytes is the answer
+abbrev pub IsRefusedBy : Command → List (List ℕ) → Status → Type 0
+IsRefusedBy c bytes answer = (refusal : Status) → c.refuses bytes refusal → IsOrNoMemory refusal answer
+
+-- nothing refuses these bytes
+abbrev pub Accepts : Command → List (List ℕ) → Type 0
+Accepts c bytes = (refusal : Status) → c.refuses bytes refusal → ⊥
+
+-- What the answer has to be where these bytes were read and these inputs are to be read. What refuses the bytes so far is the
+-- answer. Where nothing does, the host tells the bytes of the next input and no call on it failed: more than its limit are too
+-- large, and else the same holds with its bytes. Where none is left and no call failed at all, it is Done.
 abbrev pub MustAnswer : Command → Host → Host → List (List ℕ) → List Input → Status → Type 0
-MustAnswer c old new past [] answer = ((role : Role) → IsQuiet role old new) → IsOrNoMemory Done answer
+MustAnswer c old new past [] answer =
+    IsRefusedBy c past answer × (Accepts c past → ((role : Role) → IsQuiet role old new) → IsOrNoMemory Done answer)
 MustAnswer c old new past (input ∷ later) answer =
-    (bytes : List ℕ) → (old input.role).left ≡ Some bytes → IsQuiet input.role old new
+    IsRefusedBy c past answer
+    × (Accepts c past → (bytes : List ℕ) → (old input.role).left ≡ Some bytes → IsQuiet input.role old new
     → (input.limit < length bytes → IsOrNoMemory (TooLarge input.role) answer)
-    × (length bytes ≤ input.limit → (refusal : Status) → c.refuses (past ++ bytes ∷ []) refusal → IsOrNoMemory refusal answer)
-    × (length bytes ≤ input.limit → ((refusal : Status) → c.refuses (past ++ bytes ∷ []) refusal → ⊥)
-    → MustAnswer c old new (past ++ bytes ∷ []) later answer)
+    × (length bytes ≤ input.limit → MustAnswer c old new (past ++ bytes ∷ []) later answer))
 
 -- an answer that refuses what was read
 abbrev pub IsRefusal : Status → Type 0
@@ -37,11 +45,10 @@ IsRefusal (WriteFault role) = ⊥
 IsRefusal (TooLarge role) = ⊥
 IsRefusal refusal = Unit {0}
 
--- What is asked of a command: nothing refuses it before its first input, bytes are refused by one answer at most, what is refused
--- isn't written, whatever inputs follow, and there is one output for its inputs at most.
+-- What is asked of a command: bytes are refused by one answer at most, which is a refusal; what is refused isn't written, whatever
+-- inputs follow; and there is one output for its inputs at most.
 pub record IsSound (c : Command) : Type 0 where
   pub refusals : (bytes : List (List ℕ)) (status : Status) → c.refuses bytes status → IsRefusal status
-  pub begins : (status : Status) → c.refuses [] status → ⊥
   pub one_refusal : (bytes : List (List ℕ)) (one other : Status) → c.refuses bytes one → c.refuses bytes other → one ≡ other
   pub never_both : (front back outs : List (List ℕ)) (status : Status) → c.refuses front status → c.writes (front ++ back) outs → ⊥
   pub one_output : (bytes outs others : List (List ℕ)) → c.writes bytes outs → c.writes bytes others → outs ≡ others
