@@ -24,16 +24,16 @@ key_of_file (nested key left inner right more) k rest list same = record {
 }
 
 -- and so does the rest of an open list
-key_of_list : (d : ℕ) (inner : Pairs) (k right : Token) (rest back : List Token) → k.kind ≡ kind.Key → IsList inner
+key_of_list : (d : ℕ) (inner : Pairs) {k : Token} (right : Token) {rest : List Token} (back : List Token) → k.kind ≡ kind.Key → IsList inner
     → right.kind ≡ kind.Right → k ∷ rest ≡ spelled inner ++ (right ∷ back) → EndsList d back → EndsValue (suc d) rest
-key_of_list d done k right rest back is list closes same around = absurd (key_isnt_right k right rest back same is closes)
-key_of_list d (plain key value more) k right rest back is list closes same around = record {
+key_of_list d done {k} right {rest} back is list closes same around = absurd (key_isnt_right k right rest back same is closes)
+key_of_list d (plain key value more) {k} right {rest} back is list closes same around = record {
   value = value;
   back = spelled more ++ (right ∷ back);
   rest_is = tail_is k key rest (value ∷ (spelled more ++ (right ∷ back))) same;
   after = inl (list.is_plain, ends_open d more right back list.more closes around);
 }
-key_of_list d (nested key left inner close more) k right rest back is list closes same around =
+key_of_list d (nested key left inner close more) {k} right {rest} back is list closes same around =
     let later = spelled more ++ (right ∷ back) in
     let joined : (spelled inner ++ (close ∷ spelled more)) ++ (right ∷ back) ≡ spelled inner ++ (close ∷ later) =
     append_assoc (spelled inner) (close ∷ spelled more) (right ∷ back) in
@@ -50,7 +50,7 @@ key_of_list d (nested key left inner close more) k right rest back is list close
 pub key_to : (d : ℕ) (k : Token) (rest : List Token) → k.kind ≡ kind.Key → EndsList d (k ∷ rest) → EndsValue d rest
 key_to zero k rest is ends = key_of_file ends.file k rest ends.list ends.spelled_is
 key_to (suc d) k rest is ends =
-    key_of_list d ends.inner k ends.right rest ends.back is ends.list ends.closes ends.spelled_is ends.around
+    key_of_list d ends.inner ends.right ends.back is ends.list ends.closes ends.spelled_is ends.around
 
 -- ---- from the value to the list
 -- a key with a plain value, before an end, is one pair more

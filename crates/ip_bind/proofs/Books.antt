@@ -60,10 +60,10 @@ not_earlier nodes n a differ within has (Some i) e =
     absurd (differ i n no_node before within a (address_is _ a earlier) has)
 
 -- node n is written at its address
-pub node_written : (nodes : List Node) (n a q : ℕ) (before now : Option ℕ) → AllPairs DifferInAddress nodes → n < length nodes
+pub node_written : (nodes : List Node) (n a q : ℕ) {before now : Option ℕ} → AllPairs DifferInAddress nodes → n < length nodes
     → let node = get_or nodes n no_node in node.address ≡ Some a → before ≡ node_with_address (take n nodes) q
     → now ≡ cond (is_eq (nat_cmp a q)) (Some n) before → now ≡ node_with_address (take (n + 1) nodes) q
-node_written nodes n a q before now differ within has so_far changed =
+node_written nodes n a q {before} {now} differ within has so_far changed =
     let test : is_eq (nat_cmp a q) ≡ (a == q) = grind (arith, nat_tests) in
     let has_it : has_address q (get_or nodes n no_node) ≡ (a == q) = ap (λ o. option_map_or (λ x. x == q) o false) has in
     let new : (a == q) ≡ true → before ≡ None = λ e.

@@ -11,5 +11,5 @@ push_links-requires c =
 
 pub returns-then-len-gt-LINKS_MAX-clause-fault : goal.returns-then-len-gt-LINKS_MAX-clause-fault
 returns-then-len-gt-LINKS_MAX-clause-fault c =
-    too_many_links c.args.directed (get nat_cmp c.args.numbers.now) c.args.edges.now c.loop-edge.edge-index _ c.loop-edge.links.items
-    c.push_links.new.links.items c.loop-edge-test.true c.loop-edge.invariant.links c.in_ok-push_links.ensures (omega arith)
+    too_many_links c.args.directed (get nat_cmp c.args.numbers.now) c.args.edges.now c.loop-edge.edge-index _
+    c.loop-edge-test.true c.loop-edge.invariant.links c.in_ok-push_links.ensures (omega arith)

@@ -16,7 +16,7 @@ loop-n-preserved c q =
     subst (AllPairs DifferInAddress) (sym c.nodes-node-items.ensures.lent) c.nodes-node-items.ensures.valid.addresses in
     elim c.match-node.branch [
       | in-Some+in_ok-insert w ↦ ap (λ m. tree.get nat_cmp m q) w.nodes-is
-          ∙ node_written nodes c.loop-n.n w.in-Some.address q _ _ differ c.loop-n-test.true w.in-Some.is (c.loop-n.invariant q)
+          ∙ node_written nodes c.loop-n.n w.in-Some.address q differ c.loop-n-test.true w.in-Some.is (c.loop-n.invariant q)
           (w.in_ok-insert.ensures.updates.0 q)
       | in_default w ↦ ap (λ m. tree.get nat_cmp m q) w.nodes-is ∙ c.loop-n.invariant q
           ∙ node_skipped nodes c.loop-n.n q c.loop-n-test.true w.in_default.is
