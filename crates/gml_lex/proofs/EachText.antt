@@ -1,7 +1,7 @@
 -- Each text is cut into pieces to its end, or to a place where no piece begins.
 use Rattle.std.proofs.Common.{◌≡◌, ◌≤◌, ◌⊎◌, ℕ, zero, suc, List, [], ◌∷◌, length, drop, refl, arith, Option, Some, None, inl, inr, length-drop}
 use Rattle.gml_lex.specs.declared.pieces.Piece.{Piece}
-use Rattle.gml_lex.specs.Pieces.{piece_at, Pieces, place_behind}
+use Rattle.gml_lex.specs.Pieces.{piece_at, Pieces, place_after}
 use Rattle.gml_lex.specs.declared.kinds.Token.{Token}
 use Rattle.gml_lex.specs.Tokens.{tokens_of, AreTokens, IsLexFault, EachTextIsAnswered}
 use Rattle.gml_lex.proofs.PieceLengths.{fits_at}
@@ -14,7 +14,7 @@ record Cut (text : List ℕ) : Type 0 where
   front : Pieces text pieces rest
   stuck : piece_at rest ≡ None
 
--- a piece has a byte at least, so what is behind it is shorter
+-- a piece has a byte at least, so what is after it is shorter
 cut : (n : ℕ) (text : List ℕ) → length text ≤ n → Cut text
 cut zero [] short = record { pieces = []; rest = []; front = refl; stuck = piece_at-nil }
 cut zero (b ∷ bs) short = absurd (omega arith)
@@ -34,7 +34,7 @@ Answered text = ((tokens : List Token) × AreTokens text tokens) ⊎ ((place : �
 answered : (text : List ℕ) (pieces : List Piece) (rest : List ℕ) → Pieces text pieces rest → piece_at rest ≡ None → Answered text
 answered text pieces [] front stuck = inl (tokens_of 0 pieces, record { pieces = pieces; whole = front; tokens_are = refl })
 answered text pieces (b ∷ bs) front stuck =
-    inr (place_behind 0 pieces, record { pieces = pieces; rest = b ∷ bs; front = front; more = λ e. cc; stuck = stuck; place_is = refl })
+    inr (place_after 0 pieces, record { pieces = pieces; rest = b ∷ bs; front = front; more = λ e. cc; stuck = stuck; place_is = refl })
 
 pub each_text_is_answered : EachTextIsAnswered
 each_text_is_answered text = let c = cut (length text) text (omega arith) in answered text c.pieces c.rest c.front c.stuck

@@ -8,7 +8,7 @@ use Rattle.std.specs.Option.{option_map_or}
 use Rattle.gml_lex.specs.declared.kinds.TokenKind.{TokenKind}
 use Rattle.gml_lex.specs.declared.kinds.Token.{Token}
 use Rattle.gml_lex.specs.declared.pieces.Piece.{Piece}
-use Rattle.gml_lex.specs.Pieces.{piece_at, Pieces, place_behind}
+use Rattle.gml_lex.specs.Pieces.{piece_at, Pieces, place_after}
 use Rattle.gml_lex.specs.Tokens.{token, token_of, tokens_of, AreTokens, IsLexFault}
 use Rattle.gml_lex.proofs.PieceLengths.{fits_at}
 
@@ -20,17 +20,17 @@ Pieces-push text (q ∷ pieces) p rest front here = (front.0, Pieces-push (drop 
 
 -- its token comes last, at the place after the pieces before
 tokens_of-push : (place : ℕ) (pieces : List Piece) (p : Piece)
-    → tokens_of place (pieces ++ p ∷ []) ≡ tokens_of place pieces ++ token_of (place_behind place pieces) p
+    → tokens_of place (pieces ++ p ∷ []) ≡ tokens_of place pieces ++ token_of (place_after place pieces) p
 tokens_of-push place [] p = append-nil (token_of place p)
 tokens_of-push place (q ∷ pieces) p =
     ap (λ ts. token_of place q ++ ts) (tokens_of-push (place + q.len) pieces p)
-    ∙ sym (append_assoc (token_of place q) (tokens_of (place + q.len) pieces) (token_of (place_behind (place + q.len) pieces) p))
+    ∙ sym (append_assoc (token_of place q) (tokens_of (place + q.len) pieces) (token_of (place_after (place + q.len) pieces) p))
 
 -- and the place after it is further by its length
-place_behind-push : (place : ℕ) (pieces : List Piece) (p : Piece)
-    → place_behind place (pieces ++ p ∷ []) ≡ place_behind place pieces + p.len
-place_behind-push place [] p = refl
-place_behind-push place (q ∷ pieces) p = place_behind-push (place + q.len) pieces p
+place_after-push : (place : ℕ) (pieces : List Piece) (p : Piece)
+    → place_after place (pieces ++ p ∷ []) ≡ place_after place pieces + p.len
+place_after-push place [] p = refl
+place_after-push place (q ∷ pieces) p = place_after-push (place + q.len) pieces p
 
 -- a byte at least, within so many bytes
 abbrev pub IsSpan : ℕ → Token → Type 0
@@ -41,7 +41,7 @@ pub record Lexed (text rest : List ℕ) (tokens : List Token) : Type 0 where
   pub pieces : List Piece
   pub front : Pieces text pieces rest
   pub tokens_are : tokens ≡ tokens_of 0 pieces
-  pub behind : place_behind 0 pieces + length rest ≡ length text
+  pub behind : place_after 0 pieces + length rest ≡ length text
   pub spans : All (IsSpan (length text)) tokens
   pub few : length tokens + length rest ≤ length text
 
@@ -64,7 +64,7 @@ pub Lexed-push : {text rest : List ℕ} {tokens : List Token} (more : List Token
     → Lexed text (drop p.len rest) more
 Lexed-push {text} {rest} {tokens} more p start l here at_is pushed =
     let fits = fits_at rest p (sym here) in
-    let place_is : start ≡ place_behind 0 l.pieces = omega (arith, l.behind) in
+    let place_is : start ≡ place_after 0 l.pieces = omega (arith, l.behind) in
     let within : start + p.len ≤ length text = omega (arith, fits.most, l.behind) in
     record {
       pieces = l.pieces ++ p ∷ [];
@@ -72,7 +72,7 @@ Lexed-push {text} {rest} {tokens} more p start l here at_is pushed =
       tokens_are =
           pushed ∙ ap (λ ts. ts ++ token_of start p) l.tokens_are ∙ ap (λ n. tokens_of 0 l.pieces ++ token_of n p) place_is
           ∙ sym (tokens_of-push 0 l.pieces p);
-      behind = omega (arith, place_behind-push 0 l.pieces p, length-drop p.len rest, fits.most, l.behind);
+      behind = omega (arith, place_after-push 0 l.pieces p, length-drop p.len rest, fits.most, l.behind);
       spans =
           subst (All (IsSpan (length text))) (sym pushed)
           (All-append (IsSpan (length text)) tokens (token_of start p) l.spans (spans_of (length text) start p fits.least within));

@@ -1,7 +1,7 @@
 -- A text is cut into pieces in one way.
 use Rattle.std.proofs.Common.{◌≡◌, ℕ, List, [], ◌∷◌, drop, refl, sym, ◌∙◌, ap, subst, Some, None}
 use Rattle.gml_lex.specs.declared.pieces.Piece.{Piece}
-use Rattle.gml_lex.specs.Pieces.{piece_at, Pieces, place_behind}
+use Rattle.gml_lex.specs.Pieces.{piece_at, Pieces, place_after}
 use Rattle.gml_lex.specs.Tokens.{tokens_of, NeverBoth, OneReading, OneFault}
 
 pub piece_at-nil : piece_at [] ≡ None
@@ -36,4 +36,4 @@ one_reading text ts us a b =
 
 pub one_fault : OneFault
 one_fault text place other a b =
-    a.place_is ∙ ap (place_behind 0) (Pieces-meet text a.pieces b.pieces a.rest b.rest a.front b.front a.stuck b.stuck).0 ∙ sym b.place_is
+    a.place_is ∙ ap (place_after 0) (Pieces-meet text a.pieces b.pieces a.rest b.rest a.front b.front a.stuck b.stuck).0 ∙ sym b.place_is

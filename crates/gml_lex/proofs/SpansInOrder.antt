@@ -1,4 +1,4 @@
--- The spans of tokens stand in order, since each piece begins behind those before it.
+-- The spans of tokens stand in order, since each piece begins after those before it.
 use Rattle.std.proofs.Common.{◌≤◌, ◌+◌, ℕ, List, [], ◌∷◌, ◌++◌, sym, subst, arith, Option, Some, None}
 use Rattle.std.proofs.lemmas.List.Elements.{All-nil, All-cons}
 use Rattle.std.proofs.lemmas.List.Kept.{AllPairs-cons}

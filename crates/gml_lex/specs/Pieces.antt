@@ -23,7 +23,7 @@ gap len = record { kind = None; len = len }
 abbrev pub token_piece : ℕ → TokenKind → Piece
 token_piece len k = record { kind = Some k; len = len }
 
--- behind an opening quote: a text to the next quote, if there is one
+-- after an opening quote: a text to the next quote, if there is one
 abbrev pub text_at : List ℕ → Option Piece
 text_at bs =
     if nat_lt (prefix_len isnt_quote bs) (length bs) then Some (token_piece (2 + prefix_len isnt_quote bs) kind.Text) else None
@@ -42,12 +42,12 @@ piece_at (b ∷ bs) =
     (if b == 91 then Some (token_piece 1 kind.Left) else
     (if b == 93 then Some (token_piece 1 kind.Right) else word_at (b ∷ bs)))))
 
--- the text is these pieces, one behind the other, and then the rest
+-- the text is these pieces, one after the other, and then the rest
 abbrev pub Pieces : List ℕ → List Piece → List ℕ → Type 0
 Pieces text [] rest = text ≡ rest
 Pieces text (p ∷ pieces) rest = (piece_at text ≡ Some p) × Pieces (drop p.len text) pieces rest
 
--- the place behind pieces that begin at a place
-abbrev pub place_behind : ℕ → List Piece → ℕ
-place_behind place [] = place
-place_behind place (p ∷ pieces) = place_behind (place + p.len) pieces
+-- the place after pieces that begin at a place
+abbrev pub place_after : ℕ → List Piece → ℕ
+place_after place [] = place
+place_after place (p ∷ pieces) = place_after (place + p.len) pieces

@@ -8,7 +8,7 @@ use Rattle.gml_lex.specs.declared.faults.LexFault.{LexFault}
 use Rattle.gml_lex.specs.declared.kinds.TokenKind.{TokenKind}
 use Rattle.gml_lex.specs.declared.kinds.Token.{Token}
 use Rattle.gml_lex.specs.declared.pieces.Piece.{Piece}
-use Rattle.gml_lex.specs.Pieces.{piece_at, Pieces, place_behind}
+use Rattle.gml_lex.specs.Pieces.{piece_at, Pieces, place_after}
 
 abbrev pub token : ℕ → ℕ → TokenKind → Token
 token start end k = record { kind = k; start = start; end = end }
@@ -35,7 +35,7 @@ pub record IsLexFault (text : List ℕ) (place : ℕ) : Type 0 where
   pub front : Pieces text pieces rest
   pub more : rest ≢ []
   pub stuck : piece_at rest ≡ None
-  pub place_is : place ≡ place_behind 0 pieces
+  pub place_is : place ≡ place_after 0 pieces
 
 -- the answer is these tokens, or out of memory
 abbrev pub GivesTokens : {A : Type 0} → List Token → Result (Vec Token A) (Refusal LexFault) → Type 0

@@ -25,7 +25,7 @@ pub one_part : (xs : List ℕ) (n : ℕ) → n ≡ prefix_len isnt_point xs → 
 one_part xs n is whole =
     slice_split_none is_point xs (λ k d within. not_true _ (prefix_len_passes isnt_point xs k d (omega (arith, is, whole, within))))
 
--- the first point stands behind so many bytes
+-- the first point stands after so many bytes
 first_part : (xs : List ℕ) (n : ℕ) → n ≡ prefix_len isnt_point xs → n < length xs
     → slice_split is_point xs ≡ take n xs ∷ slice_split is_point (drop (n + 1) xs)
 first_part xs n is some =

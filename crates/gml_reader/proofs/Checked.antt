@@ -115,7 +115,7 @@ rights_more : (tokens : List Token) (at : ℕ) (none : Token) → at < length to
     → rights (take (at + 1) tokens) ≡ rights (take at tokens) + cond (is_right_kind (get_or tokens at none).kind) 1 0
 rights_more tokens at none within = sum_by_more (λ t. cond (is_right t) 1 0) tokens at none within
 
--- one token more, behind those that were read, after which the rules name a state
+-- one token more, after those that were read, after which the rules name a state
 pub record IsNext (tokens : List Token) (at : ℕ) (none : Token) (w : Wanted) (d : ℕ) (v : Wanted) (n : ℕ) : Type 0 where
   pub inside : at < length tokens
   pub read : IsRead tokens at w d

@@ -4,10 +4,10 @@ use Rattle.gml_lex.specs.declared.kinds.TokenKind.{TokenKind}
 use Rattle.gml_lex.specs.declared.kinds.TokenKind.TheVariants as kind
 use Rattle.gml_lex.specs.declared.kinds.Token.{Token}
 use Rattle.gml_reader.specs.Grammar.{Pairs, done, plain, nested, spelled, IsPlain}
-use Rattle.gml_reader.specs.Walk.{IsListIn, depth_behind, closing_at, closing}
+use Rattle.gml_reader.specs.Walk.{IsListIn, depth_after, closing_at, closing}
 
 -- a token that neither opens nor closes a list
-plain_step : (k : TokenKind) (d : ℕ) → IsPlain k → depth_behind k d ≡ Some d
+plain_step : (k : TokenKind) (d : ℕ) → IsPlain k → depth_after k d ≡ Some d
 plain_step kind.Key d simple = refl
 plain_step kind.Integer d simple = refl
 plain_step kind.Real d simple = refl
@@ -15,8 +15,8 @@ plain_step kind.Text d simple = refl
 plain_step kind.Left d simple = absurd simple
 plain_step kind.Right d simple = absurd simple
 
-depth_of : (k kd : TokenKind) (d : ℕ) → k ≡ kd → depth_behind k d ≡ depth_behind kd d
-depth_of k kd d is = ap (λ x. depth_behind x d) is
+depth_of : (k kd : TokenKind) (d : ℕ) → k ≡ kd → depth_after k d ≡ depth_after kd d
+depth_of k kd d is = ap (λ x. depth_after x d) is
 
 -- a token that doesn't close the list stands before its Right
 one_more : (o : Option ℕ) (e : ℕ) (later : ℕ → ℕ) → o ≡ Some e → closing_at o later ≡ 1 + later e

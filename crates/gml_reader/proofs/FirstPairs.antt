@@ -26,13 +26,13 @@ left_is_no_value k is simple = subst IsPlain is simple
 abbrev inner_pair : Token → Bor (List Token) → Bor (List Token) → FirstPair
 inner_pair key inner rest = record { key = key; value = Inner inner; rest = rest }
 
--- what stands behind a Left: the inner list, then its Right and the other pairs
+-- what stands after a Left: the inner list, then its Right and the other pairs
 pub record IsClosed (len : ℕ) (t : Pairs) (key : Token) (behind : List Token) (end : ℕ) : Type 0 where
   pub closed : 0 < length (drop end behind)
   pub pair : (inner rest : Bor (List Token)) (right : Token) → inner.now ≡ take end behind → drop end behind ≡ right ∷ rest.now
       → IsPairOf len t (inner_pair key inner rest)
 
--- tokens whose second is a Left, what stands behind it, and where its list ends there
+-- tokens whose second is a Left, what stands after it, and where its list ends there
 pub record Opens (tokens : List Token) (none : Token) (behind : List Token) (end : ℕ) : Type 0 where
   pub some : 2 ≤ length tokens
   pub opens : (get_or tokens 1 none).kind ≡ kind.Left

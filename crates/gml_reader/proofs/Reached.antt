@@ -71,7 +71,7 @@ module _ {text : List ℕ} {t : Pairs} {p : FirstPair} {rest : List Token} {node
   abbrev edges_with : ℕ
   edges_with = length edges + cond (is_edge text q.head) 1 0
 
-  -- the first fault is that of the first pair, or the first behind it
+  -- the first fault is that of the first pair, or the first after it
   split_fault : items_fault text 0 0 (pairs t)
       ≡ option_or (item_fault text (length nodes) (length edges) q.head) (items_fault text nodes_with edges_with (pairs q.more))
   split_fault = sym r.same ∙ ap (items_fault text (length nodes) (length edges)) q.pairs_are

@@ -35,7 +35,7 @@ lefts tokens = count_by is_left tokens
 abbrev pub rights : List Token → ℕ
 rights tokens = count_by is_right tokens
 
--- at most 32 lists are open behind any of the first tokens
+-- at most 32 lists are open after any of the first tokens
 abbrev pub IsShallowTo : ℕ → List Token → Type 0
 IsShallowTo at tokens = (i : ℕ) → i ≤ at → lefts (take i tokens) ≤ 32 + rights (take i tokens)
 

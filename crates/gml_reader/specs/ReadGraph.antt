@@ -29,7 +29,7 @@ IsGraph len (Some g) (Some s) = IsListIn len g × (s.now ≡ spelled g)
 abbrev pub IsPair : ℕ → PairTree → FirstPair → Type 0
 IsPair len p first = (first.key ≡ p.key) × (p.key.end ≤ len) × IsValueOf len p.value first.value
 
--- one pair more was read of a graph, behind these nodes and edges
+-- one pair more was read of a graph, after these nodes and edges
 abbrev pub IsItem : List ℕ → List Node → List EdgeSpec → PairTree → List Node → List EdgeSpec → Result (Unit {0}) (Refusal GmlFault)
     → Type 0
 IsItem text nodes edges p more_nodes more_edges (Ok u) =

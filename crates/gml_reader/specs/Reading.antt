@@ -68,12 +68,12 @@ is_node text p = is_named text (key_name key.Node) p
 abbrev pub is_edge : List ℕ → PairTree → Bool
 is_edge text p = is_named text (key_name key.Edge) p
 
--- the fault of a pair of the graph, behind so many nodes and edges
+-- the fault of a pair of the graph, after so many nodes and edges
 abbrev pub item_fault : List ℕ → ℕ → ℕ → PairTree → Option GmlFault
 item_fault text n e p =
     if is_node text p then node_item_fault text n p.value else (if is_edge text p then edge_item_fault text e p.value else None)
 
--- the first fault of the nodes and edges, in the order of the text, behind so many nodes and edges
+-- the first fault of the nodes and edges, in the order of the text, after so many nodes and edges
 abbrev pub items_fault : List ℕ → ℕ → ℕ → List PairTree → Option GmlFault
 items_fault text n e [] = None
 items_fault text n e (p ∷ ps) =

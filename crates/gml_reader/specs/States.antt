@@ -6,7 +6,7 @@ use Rattle.gml_lex.specs.declared.kinds.TokenKind.TheVariants as kind
 use Rattle.gml_reader.specs.declared.grammar.Wanted.{Wanted}
 use Rattle.gml_reader.specs.declared.grammar.Wanted.TheVariants.{KeyOrEnd, Value}
 
--- what is wanted behind a token, and how many lists are open there
+-- what is wanted after a token, and how many lists are open there
 abbrev pub after : Wanted → ℕ → TokenKind → Option (Wanted × ℕ)
 after KeyOrEnd depth kind.Key = Some (Value, depth)
 after KeyOrEnd zero kind.Right = None

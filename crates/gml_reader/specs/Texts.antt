@@ -30,7 +30,7 @@ pub record Reads (text : List ℕ) (topology : TopologyView) : Type 0 where
 abbrev pub StartsAt : List Token → ℕ → ℕ → Type 0
 StartsAt tokens at place = (token : Token) × (slice_get tokens at ≡ Some token) × (token.start ≡ place)
 
--- the first token with which the text's tokens begin no file; or they end in an open list or behind a key
+-- the first token with which the text's tokens begin no file; or they end in an open list or after a key
 pub record IsGrammarFault (text : List ℕ) (place : ℕ) : Type 0 where
   pub tokens : List Token
   pub are : AreTokens text tokens

@@ -33,15 +33,15 @@ IsListIn len done = Unit {0}
 IsListIn len (plain key value more) = IsPlainPairIn len key value (IsListIn len more)
 IsListIn len (nested key left inner right more) = IsNestedPairIn len key left right (IsListIn len inner) (IsListIn len more)
 
--- how many inner lists are open behind a token; none where it closes the list itself
-abbrev pub depth_behind : TokenKind → ℕ → Option ℕ
-depth_behind kind.Key d = Some d
-depth_behind kind.Integer d = Some d
-depth_behind kind.Real d = Some d
-depth_behind kind.Text d = Some d
-depth_behind kind.Left d = Some (suc d)
-depth_behind kind.Right zero = None
-depth_behind kind.Right (suc d) = Some d
+-- how many inner lists are open after a token; none where it closes the list itself
+abbrev pub depth_after : TokenKind → ℕ → Option ℕ
+depth_after kind.Key d = Some d
+depth_after kind.Integer d = Some d
+depth_after kind.Real d = Some d
+depth_after kind.Text d = Some d
+depth_after kind.Left d = Some (suc d)
+depth_after kind.Right zero = None
+depth_after kind.Right (suc d) = Some d
 
 -- how many tokens stand before the Right that closes so many inner lists and then the list itself
 abbrev pub closing_at : Option ℕ → (ℕ → ℕ) → ℕ
@@ -50,7 +50,7 @@ closing_at (Some d) later = 1 + later d
 
 abbrev pub closing : List Token → ℕ → ℕ
 closing [] d = 0
-closing (t ∷ ts) d = closing_at (depth_behind t.kind d) (closing ts)
+closing (t ∷ ts) d = closing_at (depth_after t.kind d) (closing ts)
 
 -- the code's value is that of the tree
 abbrev pub IsValueOf : ℕ → ValueTree → code.ValueTokens → Type 0

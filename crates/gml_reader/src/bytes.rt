@@ -76,7 +76,7 @@ fn joined(a: Option<u8>, b: Option<u8>, c: Option<u8>, d: Option<u8>) -> Option<
     Some(((w * 256 + x) * 256 + y) * 256 + z)
 }
 
-/// What stands before and behind the first point.
+/// What stands before and after the first point.
 fn cut(bytes: &[u8]) -> Option<(&[u8], &[u8])>
     ensures { MatchOption result
         (slice_split is_point bytes.now ≡ bytes.now ∷ [])

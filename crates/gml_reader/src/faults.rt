@@ -19,7 +19,7 @@ pub enum GmlFault {
         /// The first such place.
         place: u32,
     },
-    /// The tokens up to and with the one that begins here begin no file; or the text ends in an open list or behind a key.
+    /// The tokens up to and with the one that begins here begin no file; or the text ends in an open list or after a key.
     Grammar {
         /// The start of that token, or the text's length.
         place: u32,

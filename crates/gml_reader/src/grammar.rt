@@ -15,7 +15,7 @@ pub(crate) enum Misplaced {
     Bad(usize),
     /// This token opens a list at depth 33.
     Deep(usize),
-    /// They end in a list that isn't closed, or behind a key.
+    /// They end in a list that isn't closed, or after a key.
     Cut,
 }
 
@@ -52,7 +52,7 @@ pub(crate) fn check(tokens: &[Token]) -> Result<(), Misplaced>
     }
 }
 
-/// What is wanted behind a token, and how many lists are open there.
+/// What is wanted after a token, and how many lists are open there.
 fn after(wanted: Wanted, depth: usize, kind: TokenKind) -> Option<(Wanted, usize)>
     requires { depth ≤ 32 }
     ensures { result ≡ after wanted depth kind }

@@ -1,6 +1,6 @@
 ghost use Rattle.std.specs.Prelude.{◌≡◌, ℕ, ◌<◌, ◌≤◌, ◌^◌, length, IfSome};
 ghost use Rattle.gml_reader.specs.Grammar.{Pairs, spelled};
-ghost use Rattle.gml_reader.specs.Walk.{IsListIn, depth_behind, closing};
+ghost use Rattle.gml_reader.specs.Walk.{IsListIn, depth_after, closing};
 
 use gml_lex::{Token, TokenKind};
 
@@ -13,7 +13,7 @@ pub(crate) enum ValueTokens<'t> {
     Inner(&'t [Token]),
 }
 
-/// The first pair of a list, and the tokens behind it.
+/// The first pair of a list, and the tokens after it.
 #[derive(Clone, Copy)]
 pub(crate) struct FirstPair<'t> {
     pub(crate) key: Token,
@@ -36,15 +36,15 @@ impl<'t> FirstPair<'t> {
         }
         let key = tokens[0];
         let value = tokens[1];
-        let behind = tokens.split_at(2).1;
+        let later = tokens.split_at(2).1;
         let TokenKind::Left = value.kind else {
             return Some(FirstPair {
                 key,
                 value: ValueTokens::Leaf(value),
-                rest: behind,
+                rest: later,
             });
         };
-        let (inner, closed) = behind.split_at(list_end(behind));
+        let (inner, closed) = later.split_at(list_end(later));
         let (_, rest) = closed.split_first()?;
         Some(FirstPair {
             key,
@@ -61,7 +61,7 @@ fn list_end(tokens: &[Token]) -> usize
 {
     let mut depth = 0usize;
     for (at, token) in tokens.iter().enumerate() {
-        let Some(next) = depth_behind(token.kind, depth) else {
+        let Some(next) = depth_after(token.kind, depth) else {
             return at;
         };
         depth = next;
@@ -69,10 +69,10 @@ fn list_end(tokens: &[Token]) -> usize
     tokens.len()
 }
 
-/// How many inner lists are open behind a token; none where it closes the list itself.
-fn depth_behind(kind: TokenKind, depth: usize) -> Option<usize>
+/// How many inner lists are open after a token; none where it closes the list itself.
+fn depth_after(kind: TokenKind, depth: usize) -> Option<usize>
     requires { depth < 2 ^ 63 }
-    ensures { result ≡ depth_behind kind depth }
+    ensures { result ≡ depth_after kind depth }
 {
     match kind {
         TokenKind::Left => Some(depth + 1),
