@@ -1,0 +1,7 @@
+pub mod Answers
+pub mod Blocks
+pub mod FaultTexts
+pub mod Interfaces
+pub mod Options
+pub mod Packets
+pub mod State
