@@ -1,1 +1,4 @@
+pub mod BlockByBlock
+pub mod Kept
+pub mod OneAnswer
 pub mod OptionLists

@@ -4,4 +4,5 @@ pub mod FaultTexts
 pub mod Interfaces
 pub mod Options
 pub mod Packets
+pub mod Reading
 pub mod State

@@ -8,6 +8,7 @@ mod fault;
 mod interface;
 mod packets;
 mod rate;
+mod reading;
 mod state;
 
 pub use fault::{CaptureFault, NgFault};
