@@ -12,14 +12,13 @@ use Rattle.pcapng_in.specs.Reading.{length_here, or_then, block_fault, after_blo
 -- one more block at the end
 pub ReadsBlocks-push : (n : ℕ) (state : NgState) (text : List ℕ) (end : NgState) (rest : List ℕ)
     → ReadsBlocks n state text end rest → block_fault end rest ≡ None → ReadsBlocks (suc n) state text (after_block end rest) (behind_block end rest)
-ReadsBlocks-push zero state text end rest reads none =
-    (
-      ap (λ (s : NgState). block_fault s text) reads.0 ∙ ap (block_fault end) reads.1 ∙ none,
-      (
-        ap (λ (s : NgState). after_block s text) reads.0 ∙ ap (after_block end) reads.1,
-        ap (λ (s : NgState). behind_block s text) reads.0 ∙ ap (behind_block end) reads.1,
-      ),
-    )
+ReadsBlocks-push zero state text end rest reads none = (
+  ap (λ (s : NgState). block_fault s text) reads.0 ∙ ap (block_fault end) reads.1 ∙ none,
+  (
+    ap (λ (s : NgState). after_block s text) reads.0 ∙ ap (after_block end) reads.1,
+    ap (λ (s : NgState). behind_block s text) reads.0 ∙ ap (behind_block end) reads.1,
+  ),
+)
 ReadsBlocks-push (suc n) state text end rest reads none =
     (reads.0, ReadsBlocks-push n (after_block state text) (behind_block state text) end rest reads.1 none)
 

@@ -1,4 +1,5 @@
 pub mod BlockByBlock
+pub mod ByFormat
 pub mod Kept
 pub mod OneAnswer
 pub mod OptionLists

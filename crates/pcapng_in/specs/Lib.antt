@@ -1,7 +1,9 @@
 pub mod Answers
 pub mod Blocks
+pub mod CaptureFile
 pub mod FaultTexts
 pub mod Interfaces
+pub mod Laws
 pub mod Options
 pub mod Packets
 pub mod Reading

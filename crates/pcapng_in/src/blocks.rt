@@ -73,12 +73,7 @@ pub fn read_shape(place: u32, order: ByteOrder, text: &[u8]) -> Result<Shape, Ng
     }
 }
 
-fn read_length(
-    place: u32,
-    order: ByteOrder,
-    kind: u32,
-    text: &[u8],
-) -> Result<Shape, NgFault>
+fn read_length(place: u32, order: ByteOrder, kind: u32, text: &[u8]) -> Result<Shape, NgFault>
     requires { 12 ≤ length text.now }
     ensures { ReadsLength place order kind text.now result }
 {

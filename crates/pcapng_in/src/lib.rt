@@ -4,11 +4,17 @@
 #![tactic(auto)]
 
 mod blocks;
+mod capture;
 mod fault;
 mod interface;
+pub mod laws;
 mod packets;
 mod rate;
 mod reading;
 mod state;
 
+pub use capture::read_capture;
 pub use fault::{CaptureFault, NgFault};
+
+#[cfg(test)]
+mod tests;

@@ -65,7 +65,11 @@ pub fn read_enhanced(
         return Err(NgFault::Interface(place));
     }
     let interface = interfaces[number];
-    let time = time_in_ns(order.word(text, 12), order.word(text, 16), interface.per_second);
+    let time = time_in_ns(
+        order.word(text, 12),
+        order.word(text, 16),
+        interface.per_second,
+    );
     if time >= u128::from(CAPTURE_NS_END) {
         return Err(NgFault::TimeRange(place));
     }

@@ -1,6 +1,7 @@
-ghost use Rattle.std.specs.Prelude.{◌≡◌, ◌≤◌, [], length, IfOk, IfErr};
+ghost use Rattle.std.specs.Prelude.{◌≡◌, ◌<◌, ◌≤◌, [], length, All, IfOk, IfErr};
 ghost use Rattle.mn_base.specs.Refused.{IfFault};
 ghost use Rattle.pcapng_in.specs.Reading.{ReadsTo, Pcapng, HasBlockFault, NgFirst};
+ghost use Rattle.pcapng_in.specs.declared.packets.TheConstants.{CAPTURE_NS_END};
 ghost use Rattle.pcapng_in.specs.Answers.{seen};
 
 use crate::blocks::read_shape;
@@ -35,8 +36,13 @@ pub fn read_pcapng(alloc: Global, text: &[u8]) -> Result<Trace, Refusal<NgFault>
     requires { length text.now ≤ TRACE_BYTES_MAX }
     ensures found { IfOk result (λ trace. Pcapng text.now trace) }
     ensures fault { IfErr result (λ refusal. IfFault refusal (NgFirst text.now)) }
+    ensures times { IfOk result (λ trace. All (λ packet. packet.time_ns < CAPTURE_NS_END) trace.packets) }
 {
-    let State { link_type, packets, .. } = read_blocks(alloc, text)?;
+    let State {
+        link_type,
+        packets,
+        ..
+    } = read_blocks(alloc, text)?;
     match link_type {
         None => Err(Refusal::Fault(NgFault::NoInterface)),
         Some(link_type) => Ok(Trace::new(link_type, packets)),

@@ -76,10 +76,8 @@ impl State {
     ) -> Result<(), Refusal<NgFault>>
         requires least { 20 ≤ len }
         requires whole { len ≤ length text.now }
-        ensures {
-            Steps (interface_fault self.old.place self.old.link_type order len text.now)
-            (with_interface (interface_of order len text.now) (seen self.old)) self.new result
-        }
+        ensures { Steps (interface_fault self.old.place self.old.link_type order len text.now)
+            (with_interface (interface_of order len text.now) (seen self.old)) self.new result }
     {
         match read_interface(self.place, self.link_type, order, len, text) {
             Err(fault) => Err(Refusal::Fault(fault)),
@@ -123,10 +121,8 @@ impl State {
         requires least { 32 ≤ len }
         requires whole { len ≤ length text.now }
         requires rates { All HasRate self.old.interfaces.items }
-        ensures {
-            Steps (enhanced_fault self.old.place (length self.old.packets.items) self.old.interfaces.items order len text.now)
-            (with_packet (packet_at 28 (enhanced_header self.old.interfaces.items order text.now) text.now) (seen self.old)) self.new result
-        }
+        ensures { Steps (enhanced_fault self.old.place (length self.old.packets.items) self.old.interfaces.items order len text.now)
+            (with_packet (packet_at 28 (enhanced_header self.old.interfaces.items order text.now) text.now) (seen self.old)) self.new result }
     {
         let interfaces = self.interfaces.as_slice();
         match read_enhanced(self.place, self.packets.len(), interfaces, order, len, text) {
@@ -147,14 +143,20 @@ impl State {
     ) -> Result<(), Refusal<NgFault>>
         requires least { 16 ≤ len }
         requires whole { len ≤ length text.now }
-        ensures {
-            Steps (simple_fault self.old.place (length self.old.packets.items) self.old.interfaces.items order len text.now)
-            (with_packet (packet_at 12 (simple_header self.old.interfaces.items self.old.last_ns order text.now) text.now) (seen self.old)) self.new result
-        }
+        ensures { Steps (simple_fault self.old.place (length self.old.packets.items) self.old.interfaces.items order len text.now)
+            (with_packet (packet_at 12 (simple_header self.old.interfaces.items self.old.last_ns order text.now) text.now) (seen self.old)) self.new result }
     {
         let interfaces = self.interfaces.as_slice();
         let count = self.packets.len();
-        match read_simple(self.place, count, interfaces, self.last_ns, order, len, text) {
+        match read_simple(
+            self.place,
+            count,
+            interfaces,
+            self.last_ns,
+            order,
+            len,
+            text,
+        ) {
             Err(fault) => Err(Refusal::Fault(fault)),
             Ok(header) => {
                 self.add_packet(alloc, header, 12, text)?;
@@ -173,10 +175,8 @@ impl State {
         requires least { least_length shape.kind ≤ shape.len }
         requires whole { shape.len ≤ length text.now }
         requires rates { All HasRate self.old.interfaces.items }
-        ensures {
-            Steps (content_fault shape.order shape.kind shape.len text.now (seen self.old))
-            (with_content shape.order shape.kind shape.len text.now (seen self.old)) self.new result
-        }
+        ensures { Steps (content_fault shape.order shape.kind shape.len text.now (seen self.old))
+            (with_content shape.order shape.kind shape.len text.now (seen self.old)) self.new result }
     {
         match shape.kind {
             SECTION => self.read_section(shape.order, text),
