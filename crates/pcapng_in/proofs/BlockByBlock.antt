@@ -11,7 +11,8 @@ use Rattle.pcapng_in.specs.Reading.{length_here, or_then, block_fault, after_blo
 
 -- one more block at the end
 pub ReadsBlocks-push : (n : ℕ) (state : NgState) (text : List ℕ) (end : NgState) (rest : List ℕ)
-    → ReadsBlocks n state text end rest → block_fault end rest ≡ None → ReadsBlocks (suc n) state text (after_block end rest) (behind_block end rest)
+    → ReadsBlocks n state text end rest → block_fault end rest ≡ None
+    → ReadsBlocks (suc n) state text (after_block end rest) (behind_block end rest)
 ReadsBlocks-push zero state text end rest reads none = (
   ap (λ (s : NgState). block_fault s text) reads.0 ∙ ap (block_fault end) reads.1 ∙ none,
   (
@@ -43,7 +44,8 @@ pub record SameReads (end other : NgState) (rest rival : List ℕ) : Type 0 wher
   pub rest_is : rest ≡ rival
 
 pub ReadsBlocks-meet : (n m : ℕ) (state : NgState) (text : List ℕ) (end other : NgState) (rest rival : List ℕ)
-    → ReadsBlocks n state text end rest → ReadsBlocks m state text other rival → IsStuck end rest → IsStuck other rival → SameReads end other rest rival
+    → ReadsBlocks n state text end rest → ReadsBlocks m state text other rival → IsStuck end rest → IsStuck other rival
+    → SameReads end other rest rival
 ReadsBlocks-meet zero zero state text end other rest rival r s stuck stuck' = record { end_is = sym r.0 ∙ s.0; rest_is = sym r.1 ∙ s.1 }
 ReadsBlocks-meet zero (suc m) state text end other rest rival r s stuck stuck' =
     absurd (stuck (ap (block_fault end) (sym r.1) ∙ ap (λ (t : NgState). block_fault t text) (sym r.0) ∙ s.0))
@@ -58,7 +60,8 @@ ReadsTo-meet text end other rest rival r s stuck stuck' =
     ReadsBlocks-meet r.blocks s.blocks first_state text end other rest rival r.reads s.reads stuck stuck'
 
 -- the content of a block by the shape that was read of it
-pub content_fault-shape : (state : NgState) (text : List ℕ) (shape : Shape) → IsShape (order_of_block state.order text) (kind_of state.order text) text shape
+pub content_fault-shape : (state : NgState) (text : List ℕ) (shape : Shape)
+    → IsShape (order_of_block state.order text) (kind_of state.order text) text shape
     → content_fault shape.order shape.kind shape.len text state
     ≡ content_fault (order_of_block state.order text) (kind_of state.order text) (length_here state text) text state
 content_fault-shape state text shape is =
@@ -66,7 +69,8 @@ content_fault-shape state text shape is =
     ∙ ap (λ (kind : ℕ). content_fault (order_of_block state.order text) kind shape.len text state) is.kind_is
     ∙ ap (λ (len : ℕ). content_fault (order_of_block state.order text) (kind_of state.order text) len text state) is.len_is
 
-pub with_content-shape : (state : NgState) (text : List ℕ) (shape : Shape) → IsShape (order_of_block state.order text) (kind_of state.order text) text shape
+pub with_content-shape : (state : NgState) (text : List ℕ) (shape : Shape)
+    → IsShape (order_of_block state.order text) (kind_of state.order text) text shape
     → with_content shape.order shape.kind shape.len text state
     ≡ with_content (order_of_block state.order text) (kind_of state.order text) (length_here state text) text state
 with_content-shape state text shape is =
@@ -75,7 +79,8 @@ with_content-shape state text shape is =
     ∙ ap (λ (len : ℕ). with_content (order_of_block state.order text) (kind_of state.order text) len text state) is.len_is
 
 -- a block's fault is that of its shape, and then that of its content
-pub block_fault-shape : (state : NgState) (text : List ℕ) (fault : NgFault) → shape_fault state.place state.order text ≡ Some fault → block_fault state text ≡ Some fault
+pub block_fault-shape : (state : NgState) (text : List ℕ) (fault : NgFault) → shape_fault state.place state.order text ≡ Some fault
+    → block_fault state text ≡ Some fault
 block_fault-shape state text fault is = rw is refl
 
 pub block_fault-content : (state : NgState) (text : List ℕ) (told : Option NgFault) → shape_fault state.place state.order text ≡ None
@@ -84,7 +89,8 @@ pub block_fault-content : (state : NgState) (text : List ℕ) (told : Option NgF
 block_fault-content state text told none is = rw none is
 
 -- the content of a block moves no place
-with_content-place : (order : ByteOrder) (kind len : ℕ) (text : List ℕ) (state : NgState) → (with_content order kind len text state).place ≡ state.place
+with_content-place : (order : ByteOrder) (kind len : ℕ) (text : List ℕ) (state : NgState)
+    → (with_content order kind len text state).place ≡ state.place
 with_content-place order kind len text state =
     elim (cases_Bool (kind == SECTION)) [
       | inl section ↦ rw section refl

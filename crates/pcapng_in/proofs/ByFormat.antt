@@ -90,7 +90,8 @@ pcap_begins_otherwise text trace p begins =
     no_magic_is_ng p.form.order p.form.resolution (sym p.header.magic ∙ begins)
 
 -- the trace of a pcapng file is within the limits, and its times are early
-pub ng_trace : (text : List ℕ) (trace : Capture) → Pcapng text trace → IsTrace trace × All (λ (packet : Packet). packet.time_ns < CAPTURE_NS_END) trace.packets
+pub ng_trace : (text : List ℕ) (trace : Capture) → Pcapng text trace
+    → IsTrace trace × All (λ (packet : Packet). packet.time_ns < CAPTURE_NS_END) trace.packets
 ng_trace text trace p =
     let kept = what_is_read_keeps text p.end [] p.reads in
     let known : IfSome (Some trace.link_type) IsLinkType = rw p.link_type_is at kept.link_type in (
@@ -113,13 +114,15 @@ same_as_pcap text trace p =
 -- ---- what a reader answers that gives a reading or the first fault
 
 pub gives_capture : (text : List ℕ) (result : Result Capture (Refusal CaptureFault)) (trace : Capture)
-    → IfOk result (SaysTrace text) → IfErr result (λ refusal. IfFault refusal (CaptureFirst text)) → SaysTrace text trace → Gives trace result
+    → IfOk result (SaysTrace text) → IfErr result (λ refusal. IfFault refusal (CaptureFirst text)) → SaysTrace text trace
+    → Gives trace result
 gives_capture text (Ok given) trace found told p = one_capture_reading text given trace found p
 gives_capture text (Err refusal.NoMemory) trace found told p = tt
 gives_capture text (Err (refusal.Fault given)) trace found told p = never_capture_both text trace given p told
 
 pub gives_capture_fault : (text : List ℕ) (result : Result Capture (Refusal CaptureFault)) (other : CaptureFault)
-    → IfOk result (SaysTrace text) → IfErr result (λ refusal. IfFault refusal (CaptureFirst text)) → CaptureFirst text other → Refuses other result
+    → IfOk result (SaysTrace text) → IfErr result (λ refusal. IfFault refusal (CaptureFirst text)) → CaptureFirst text other
+    → Refuses other result
 gives_capture_fault text (Ok given) other found told has = never_capture_both text given other found has
 gives_capture_fault text (Err refusal.NoMemory) other found told has = tt
 gives_capture_fault text (Err (refusal.Fault given)) other found told has = one_capture_fault text given other told has

@@ -90,7 +90,8 @@ interface_of-rate order len text =
 known : (n : ℕ) → knows_link_type n ≡ true → IsLinkType n
 known n is = grind (arith, nat_tests)
 
-interface_fault-known : (place : ℕ) (first : Option ℕ) (order : ByteOrder) (len : ℕ) (text : List ℕ) → interface_fault place first order len text ≡ None
+interface_fault-known : (place : ℕ) (first : Option ℕ) (order : ByteOrder) (len : ℕ) (text : List ℕ)
+    → interface_fault place first order len text ≡ None
     → knows_link_type (interface_link_type order text) ≡ true
 interface_fault-known place first order len text none =
     elim (cases_Bool (knows_link_type (interface_link_type order text))) [
@@ -127,7 +128,8 @@ first_type : (first : Option ℕ) (n : ℕ) → IfSome first IsLinkType → IsLi
 first_type None n first_is is = is
 first_type (Some first) n first_is is = first_is
 
-interface_keeps : (interface : Interface) (state : NgState) → HasRate interface → IsLinkType interface.link_type → Keeps state → Keeps (with_interface interface state)
+interface_keeps : (interface : Interface) (state : NgState) → HasRate interface → IsLinkType interface.link_type → Keeps state
+    → Keeps (with_interface interface state)
 interface_keeps interface state has is kept = record {
   rates = All-push HasRate state.interfaces interface kept.rates has;
   link_type = first_type state.link_type interface.link_type kept.link_type is;
@@ -154,7 +156,8 @@ packet_keeps packet state is kept = record {
 }
 
 -- the packet of a header with lengths within the limits and an early time
-header_is_packet : (offset : ℕ) (header : PacketHeader) (text : List ℕ) → header.captured ≤ PACKET_BYTES_MAX → header.original ≤ PACKET_BYTES_MAX
+header_is_packet : (offset : ℕ) (header : PacketHeader) (text : List ℕ) → header.captured ≤ PACKET_BYTES_MAX
+    → header.original ≤ PACKET_BYTES_MAX
     → header.time_ns < CAPTURE_NS_END → IsPacket (packet_at offset header text)
 header_is_packet offset header text captured original early = record {
   time = omega (arith, early);
@@ -185,7 +188,8 @@ simple_fault-none : (state : NgState) (order : ByteOrder) (len : ℕ) (text : Li
 simple_fault-none state order len text none =
     record { few = grind (arith, nat_tests); captured = grind (arith, nat_tests); original = grind (arith, nat_tests) }
 
-header_keeps : (offset : ℕ) (header : PacketHeader) (state : NgState) (text : List ℕ) → HasNone state header → header.time_ns < CAPTURE_NS_END
+header_keeps : (offset : ℕ) (header : PacketHeader) (state : NgState) (text : List ℕ) → HasNone state header
+    → header.time_ns < CAPTURE_NS_END
     → Keeps state → Keeps (with_packet (packet_at offset header text) state)
 header_keeps offset header state text has early kept =
     packet_keeps (packet_at offset header text) state
@@ -241,7 +245,8 @@ block_keeps state text none kept =
     let content = or_then-none (shape_fault state.place state.order text) (content_fault order kind len text state) none in
     moved_keeps (with_content order kind len text state) (state.place + len) (content_keeps order kind len text state content kept)
 
-reads_keep : (n : ℕ) (state : NgState) (text : List ℕ) (end : NgState) (rest : List ℕ) → ReadsBlocks n state text end rest → Keeps state → Keeps end
+reads_keep : (n : ℕ) (state : NgState) (text : List ℕ) (end : NgState) (rest : List ℕ) → ReadsBlocks n state text end rest → Keeps state
+    → Keeps end
 reads_keep zero state text end rest reads kept = subst Keeps reads.0 kept
 reads_keep (suc n) state text end rest reads kept =
     reads_keep n (after_block state text) (behind_block state text) end rest reads.1 (block_keeps state text reads.0 kept)

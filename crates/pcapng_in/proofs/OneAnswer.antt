@@ -58,7 +58,8 @@ one_ng_fault text fault other (inr p) (inr q) = p.0 ∙ sym q.0
 least_length-least : (kind : ℕ) → 12 ≤ least_length kind
 least_length-least kind = grind (arith, nat_tests)
 
-length_fault-none : (place : ℕ) (order : ByteOrder) (kind : ℕ) (text : List ℕ) → length_fault place order kind text ≡ None → least_length kind ≤ block_length order text
+length_fault-none : (place : ℕ) (order : ByteOrder) (kind : ℕ) (text : List ℕ) → length_fault place order kind text ≡ None
+    → least_length kind ≤ block_length order text
 length_fault-none place order kind text none = grind (arith, nat_tests)
 
 section_least : (place : ℕ) (order : ByteOrder) (told : Option ByteOrder) (text : List ℕ) → section_shape_fault place told text ≡ None
@@ -73,7 +74,8 @@ other_least place order text true none = section_least place order (magic_order 
 other_least place order text false none =
     omega (arith, length_fault-none place order (kind_of order text) text none, least_length-least (kind_of order text))
 
-long_enough : (place : ℕ) (short : Bool) (told : Option NgFault) → (if short then Some (Cut place) else told) ≡ None → (short ≡ false) × (told ≡ None)
+long_enough : (place : ℕ) (short : Bool) (told : Option NgFault) → (if short then Some (Cut place) else told) ≡ None
+    → (short ≡ false) × (told ≡ None)
 long_enough place true told none = let e : Some (Cut place) ≡ None = none in absurd cc
 long_enough place false told none = (refl, none)
 
@@ -91,7 +93,8 @@ or_then-first : (told other : Option NgFault) → or_then told other ≡ None �
 or_then-first None other none = refl
 or_then-first (Some fault) other none = absurd cc
 
-block-shorter : (state : NgState) (text : List ℕ) (n : ℕ) → block_fault state text ≡ None → length text ≤ suc n → length (behind_block state text) ≤ n
+block-shorter : (state : NgState) (text : List ℕ) (n : ℕ) → block_fault state text ≡ None → length text ≤ suc n
+    → length (behind_block state text) ≤ n
 block-shorter state text n none few =
     let shape = or_then-first (shape_fault state.place state.order text)
     (content_fault (order_of_block state.order text) (kind_of state.order text) (length_here state text) text state) none in
@@ -117,7 +120,8 @@ record Fails (state : NgState) (text : List ℕ) : Type 0 where
 abbrev EndsOrFails : NgState → List ℕ → Type 0
 EndsOrFails state text = Ends state text ⊎ Fails state text
 
-more_blocks : (state : NgState) (text : List ℕ) → block_fault state text ≡ None → EndsOrFails (after_block state text) (behind_block state text) → EndsOrFails state text
+more_blocks : (state : NgState) (text : List ℕ) → block_fault state text ≡ None
+    → EndsOrFails (after_block state text) (behind_block state text) → EndsOrFails state text
 more_blocks state text none (inl ends) = inl (record { blocks = suc ends.blocks; end = ends.end; reads = (none, ends.reads) })
 more_blocks state text none (inr fails) = inr (record {
   fault = fails.fault;

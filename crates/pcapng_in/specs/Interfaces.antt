@@ -51,5 +51,6 @@ interface_of order len text = record {
 }
 
 abbrev pub ReadsInterface : ℕ → Option ℕ → ByteOrder → ℕ → List ℕ → Result Interface NgFault → Type 0
-ReadsInterface place first order len text (Ok interface) = (interface_fault place first order len text ≡ None) × (interface ≡ interface_of order len text)
+ReadsInterface place first order len text (Ok interface) =
+    (interface_fault place first order len text ≡ None) × (interface ≡ interface_of order len text)
 ReadsInterface place first order len text (Err fault) = interface_fault place first order len text ≡ Some fault
