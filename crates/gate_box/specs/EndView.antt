@@ -1,0 +1,9 @@
+-- What contracts see of an end of a lane.
+use Rattle.std.specs.Prelude.{ℕ}
+
+-- the lane's name, the number of the next item, how often this end found another word than it wanted, and the word that it found last
+pub record EndView (N : Type 0) : Type 0 where
+  pub name : N
+  pub next : ℕ
+  pub misses : ℕ
+  pub found : ℕ

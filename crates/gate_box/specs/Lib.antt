@@ -1,0 +1,2 @@
+pub mod EndView
+pub mod Gate
