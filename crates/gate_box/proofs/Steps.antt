@@ -1,19 +1,27 @@
 -- Each kind of step keeps the rule of a lane, and tells what its play says.
-use Rattle.std.proofs.Common.{◌≡◌, ◌≢◌, ◌⊎◌, inl, inr, ⊎_elim, ℕ, zero, suc, ◌+◌, ◌-◌, ◌*◌, ◌<◌, ◌≤◌, eqb, Bool, true, false, true≢false, List, [], ◌∷◌, ◌++◌, length, set, get_or, Option, Some, None, refl, sym, ap, ◌∙◌, subst, arith, length-set, replicate}
+use Rattle.std.proofs.Common.{◌≡◌, ◌≢◌, ◌⊎◌, inl, inr, ⊎_elim, ℕ, zero, suc, ◌+◌, ◌-◌, ◌*◌, ◌<◌, ◌≤◌, eqb, Bool, true, false, true≢false, List, [], ◌∷◌, ◌++◌, length, set, get_or, Option, Some, None, refl, sym, ap, ◌∙◌, subst, arith, length-set, lit<}
 use mathlib.Core.Option as maybe
 use lib.ListN.{get_elem?}
 use prog.Atomic.{either}
 use Rattle.atomic_table.specs.Table.{State, Me, Act, step, rest, stepped, keeps, takes, gives, chain, Valid, carried_after, put_back, Allows, Splits, opening}
 use Rattle.atomic_table.proofs.Lists.{at_set, exchanged}
+use Rattle.std.proofs.lemmas.List.{get_or-set_same}
 use Rattle.gate_box.specs.declared.rule.Note.{Note}
-use Rattle.gate_box.specs.Gate.{Phase, free, writing, full, reading, code, sent, taken, writes, reads, Lies, Fits, LaneOk, both_roles, sender_note, receiver_note, holding, passed, seized, freed, missed, Claims, Posts, Takes, Clears}
+use Rattle.gate_box.specs.declared.rule.TheConstants.{GATE, WORDS}
+use Rattle.gate_box.specs.Gate.{Phase, free, writing, full, reading, code, sent, taken, writes, reads, Lies, Fits, LaneOk, both_roles, sender_note, receiver_note, holding, passed, seized, freed, missed, Claims, Posts, TakesItem, Clears}
 
 -- what stands behind a list, by its place
-pub at_end : {A : Type 0} (l : List A) (a b : A) (j : ℕ) → get_elem? (l ++ a ∷ []) j ≡ maybe.some b → (get_elem? l j ≡ maybe.some b) ⊎ ((j ≡ length l) × (a ≡ b))
+pub at_end : {A : Type 0} (l : List A) (a b : A) (j : ℕ) → get_elem? (l ++ a ∷ []) j ≡ maybe.some b
+    → (get_elem? l j ≡ maybe.some b) ⊎ ((j ≡ length l) × (a ≡ b))
 at_end [] a b zero e = inr (refl, maybe.some-injective a b e)
 at_end [] a b (suc j) e = absurd (maybe.some-ne-none b (sym e))
 at_end (x ∷ xs) a b zero e = inl e
 at_end (x ∷ xs) a b (suc j) e = ⊎_elim (λ old. inl old) (λ new. inr (ap suc new.0, new.1)) (at_end xs a b j e)
+
+-- the gate word is what was written into it
+gate_written : (words : List ℕ) (word : ℕ) → length words ≡ WORDS → get_or (set words GATE word) GATE 0 ≡ word
+gate_written words word width =
+    let within : GATE < length words = subst (λ (m : ℕ). GATE < m) (sym width) (lit< tt) in get_or-set_same words GATE word 0 within
 
 off : false ≡ true → ⊥
 off e = true≢false (sym e)
@@ -28,18 +36,20 @@ module _ {N T : Type 0} (is_item : N → ℕ → T → Type 0) (name : N) where
   -- ---- one seat moves, and the other role's stays where it is
 
   -- the sender's seat has a new note, the word a new round and phase, and the receiver is as far as before
-  pub sender_moves : (s : S) (r : LaneOk is_item name s) (id n : ℕ) (phase : Phase) (word : ℕ) (homes : List (maybe.Option (Option T))) (old new : V)
+  pub sender_moves : (s : S) (r : LaneOk is_item name s) (id n : ℕ) (phase : Phase) (word : ℕ) (homes : List (maybe.Option (Option T)))
+      (old new : V)
       → get_elem? s.views id ≡ maybe.some old → old.sends ≡ true
       → word ≡ 4 * n + code phase → Lies is_item name n phase homes
       → new.name ≡ old.name → new.receives ≡ false → new.next ≡ sent n phase → new.holds ≡ writes phase
       → taken n phase ≡ taken r.n r.phase → reads phase ≡ reads r.phase
-      → LaneOk is_item name (record { words = set s.words 0 word; homes = homes; views = set s.views id new })
+      → LaneOk is_item name (record { words = set s.words GATE word; homes = homes; views = set s.views id new })
   sender_moves s r id n phase word homes old new at sends is lies named deaf next held same_taken same_reads = record {
     n = n;
     phase = phase;
     sender = r.sender;
     receiver = r.receiver;
-    word = ap (λ (ws : List ℕ). set ws 0 word) r.word ∙ ap (λ (w : ℕ). w ∷ []) is;
+    width = length-set s.words GATE word ∙ r.width;
+    word = gate_written s.words word r.width ∙ is;
     lies = lies;
     seats = λ j u there. ⊎_elim (mine j u) (other j u) (at_set s.views id j new u there);
   }
@@ -58,23 +68,28 @@ module _ {N T : Type 0} (is_item : N → ℕ → T → Type 0) (name : N) where
       other j u there = record {
         named = (r.seats j u there.1).named;
         sends = λ yes. absurd (there.0 (((r.seats j u there.1).sends yes).0 ∙ sym (its.sends sends).0));
-        receives = λ yes.
-            (((r.seats j u there.1).receives yes).0, ((r.seats j u there.1).receives yes).1 ∙ sym same_taken, ((r.seats j u there.1).receives yes).2 ∙ sym same_reads);
+        receives = λ yes. (
+          ((r.seats j u there.1).receives yes).0,
+          ((r.seats j u there.1).receives yes).1 ∙ sym same_taken,
+          ((r.seats j u there.1).receives yes).2 ∙ sym same_reads,
+        );
       }
 
   -- the same of the receiver's seat
-  pub receiver_moves : (s : S) (r : LaneOk is_item name s) (id n : ℕ) (phase : Phase) (word : ℕ) (homes : List (maybe.Option (Option T))) (old new : V)
+  pub receiver_moves : (s : S) (r : LaneOk is_item name s) (id n : ℕ) (phase : Phase) (word : ℕ) (homes : List (maybe.Option (Option T)))
+      (old new : V)
       → get_elem? s.views id ≡ maybe.some old → old.receives ≡ true
       → word ≡ 4 * n + code phase → Lies is_item name n phase homes
       → new.name ≡ old.name → new.sends ≡ false → new.next ≡ taken n phase → new.holds ≡ reads phase
       → sent n phase ≡ sent r.n r.phase → writes phase ≡ writes r.phase
-      → LaneOk is_item name (record { words = set s.words 0 word; homes = homes; views = set s.views id new })
+      → LaneOk is_item name (record { words = set s.words GATE word; homes = homes; views = set s.views id new })
   receiver_moves s r id n phase word homes old new at receives is lies named mute next held same_sent same_writes = record {
     n = n;
     phase = phase;
     sender = r.sender;
     receiver = r.receiver;
-    word = ap (λ (ws : List ℕ). set ws 0 word) r.word ∙ ap (λ (w : ℕ). w ∷ []) is;
+    width = length-set s.words GATE word ∙ r.width;
+    word = gate_written s.words word r.width ∙ is;
     lies = lies;
     seats = λ j u there. ⊎_elim (mine j u) (other j u) (at_set s.views id j new u there);
   }
@@ -92,8 +107,12 @@ module _ {N T : Type 0} (is_item : N → ℕ → T → Type 0) (name : N) where
       other : (j : ℕ) (u : V) → (j ≢ id) × (get_elem? s.views j ≡ maybe.some u) → Fits name n phase r.sender r.receiver j u
       other j u there = record {
         named = (r.seats j u there.1).named;
-        sends = λ yes.
-            (((r.seats j u there.1).sends yes).0, ((r.seats j u there.1).sends yes).1 ∙ sym same_sent, ((r.seats j u there.1).sends yes).2 ∙ sym same_writes);
+        sends = λ yes. (
+          ((r.seats j u there.1).sends yes).0,
+          ((r.seats j u there.1).sends yes).1 ∙ sym same_sent,
+          ((r.seats j u there.1).sends yes).2
+              ∙ sym same_writes,
+        );
         receives = λ yes. absurd (there.0 (((r.seats j u there.1).receives yes).0 ∙ sym (its.receives receives).0));
       }
 
@@ -122,14 +141,16 @@ module _ {N T : Type 0} (is_item : N → ℕ → T → Type 0) (name : N) where
   found_writing n k reading next holds = absurd (off (sym holds))
 
   -- a receiver that holds nothing finds the item of its round
-  found_full : (n k : ℕ) (phase : Phase) → k ≡ taken n phase → false ≡ reads phase → 4 * n + code phase ≡ 4 * k + 2 → (phase ≡ full) × (n ≡ k)
+  found_full : (n k : ℕ) (phase : Phase) → k ≡ taken n phase → false ≡ reads phase → 4 * n + code phase ≡ 4 * k + 2
+      → (phase ≡ full) × (n ≡ k)
   found_full n k free next idle word = absurd (omega arith)
   found_full n k writing next idle word = absurd (omega arith)
   found_full n k full next idle word = (refl, sym next)
   found_full n k reading next idle word = absurd (off idle)
 
   -- and a lesser word where it isn't there yet
-  found_empty : (n k : ℕ) (phase : Phase) → k ≡ taken n phase → false ≡ reads phase → 4 * n + code phase ≢ 4 * k + 2 → 4 * n + code phase < 4 * k + 2
+  found_empty : (n k : ℕ) (phase : Phase) → k ≡ taken n phase → false ≡ reads phase → 4 * n + code phase ≢ 4 * k + 2
+      → 4 * n + code phase < 4 * k + 2
   found_empty n k free next idle differ = omega arith
   found_empty n k writing next idle differ = omega arith
   found_empty n k full next idle differ = absurd (differ (omega arith))
@@ -150,18 +171,20 @@ module _ {N T : Type 0} (is_item : N → ℕ → T → Type 0) (name : N) where
   -- what a seat's step from a state comes to: a new note, an act, the rule, and what is told
   abbrev Comes : S → ℕ → M → ℕ → (M → Type 0) → Type 0
   Comes s id me word told =
-      (w : V) × (a : Act (Option T)) × Valid s.homes me.1 a × LaneOk is_item name (stepped s 0 word id me.1 w a) × told (w, carried_after me.1 a)
+      (w : V) × (a : Act (Option T)) × Valid s.homes me.1 a × LaneOk is_item name (stepped s GATE word id me.1 w a) × told
+      (w, carried_after me.1 a)
 
   pub claims : (slots id k : ℕ) (me : M) → me.0.sends ≡ true → me.0.receives ≡ false → me.0.holds ≡ false → me.0.next ≡ k → me.1 ≡ []
-      → Allows (LaneOk is_item name) slots id me 0 (λ y. either (eqb y (4 * k)) (4 * k + 1) y) (Claims (step slots 0 (4 * k) (4 * k + 1) maybe.none) me)
+      → Allows (LaneOk is_item name) slots id me GATE (λ y. either (eqb y (4 * k)) (4 * k + 1) y)
+      (Claims (step slots GATE (4 * k) (4 * k + 1) maybe.none) me)
   claims slots id k me sends deaf idle next none_held s r wide at small =
-      exchanged y (4 * k) (4 * k + 1) (λ word. Comes s id me word (Claims (step slots 0 (4 * k) (4 * k + 1) maybe.none) me y)) hit miss
+      exchanged y (4 * k) (4 * k + 1) (λ word. Comes s id me word (Claims (step slots GATE (4 * k) (4 * k + 1) maybe.none) me y)) hit miss
     where
       y : ℕ
-      y = get_or s.words 0 0
+      y = get_or s.words GATE 0
 
       is : y ≡ 4 * r.n + code r.phase
-      is = ap (λ (ws : List ℕ). get_or ws 0 0) r.word
+      is = r.word
 
       mine : (id ≡ r.sender) × (me.0.next ≡ sent r.n r.phase) × (me.0.holds ≡ writes r.phase)
       mine = (r.seats id me.0 at).sends sends
@@ -172,47 +195,52 @@ module _ {N T : Type 0} (is_item : N → ℕ → T → Type 0) (name : N) where
       quiet : false ≡ writes r.phase
       quiet = sym idle ∙ mine.2
 
-      hit : y ≡ 4 * k → Comes s id me (4 * k + 1) (Claims (step slots 0 (4 * k) (4 * k + 1) maybe.none) me y)
+      hit : y ≡ 4 * k → Comes s id me (4 * k + 1) (Claims (step slots GATE (4 * k) (4 * k + 1) maybe.none) me y)
       hit same =
           let found = found_free r.n k r.phase number quiet (sym is ∙ same) in
-          let home : s.homes ≡ maybe.some None ∷ [] = subst (λ (p : Phase). Lies is_item name r.n p s.homes) found.0 r.lies in
-          (
+          let home : s.homes ≡ maybe.some None ∷ [] = subst (λ (p : Phase). Lies is_item name r.n p s.homes) found.0 r.lies in (
             holding me.0,
             takes 0 None,
             ap (λ (hs : List (maybe.Option (Option T))). get_elem? hs 0) home,
             sender_moves s r id k writing (4 * k + 1) (set s.homes 0 maybe.none) me.0 (holding me.0) at sends refl
-            (ap (λ (hs : List (maybe.Option (Option T))). set hs 0 maybe.none) home) refl deaf next refl
-            (sym found.1 ∙ ap (λ (p : Phase). taken r.n p) (sym found.0)) (ap reads (sym found.0)),
+                (ap (λ (hs : List (maybe.Option (Option T))). set hs 0 maybe.none) home) refl deaf next refl
+                (sym found.1 ∙ ap (λ (p : Phase). taken r.n p) (sym found.0)) (ap reads (sym found.0)),
             ((λ _. ap (λ (held : List (ℕ × Option T)). (holding me.0, (0, None) ∷ held)) none_held), (λ differ. absurd (differ same))),
           )
 
-      miss : y ≢ 4 * k → Comes s id me y (Claims (step slots 0 (4 * k) (4 * k + 1) maybe.none) me y)
+      miss : y ≢ 4 * k → Comes s id me y (Claims (step slots GATE (4 * k) (4 * k + 1) maybe.none) me y)
       miss differ =
-          let busy = found_busy r.n k r.phase number quiet (λ same. differ (is ∙ same)) in
-          (
+          let busy = found_busy r.n k r.phase number quiet (λ same. differ (is ∙ same)) in (
             missed me.0 y,
             keeps,
             tt,
             sender_moves s r id r.n r.phase y s.homes me.0 (missed me.0 y) at sends is r.lies refl deaf mine.1 mine.2 refl refl,
             (
               (λ same. absurd (differ same)),
-              λ _. (refl, subst (λ (m : ℕ). 0 < m) (sym next) busy.0,
-                  subst (λ (m : ℕ). (y ≡ 4 * (m - 1) + 2) ⊎ (y ≡ 4 * (m - 1) + 3)) (sym next) (⊎_elim (λ at2. inl (is ∙ at2)) (λ at3. inr (is ∙ at3)) busy.1)),
+              λ _. (
+                refl,
+                subst (λ (m : ℕ). 0 < m) (sym next) busy.0,
+                subst (λ (m : ℕ). (y ≡ 4 * (m - 1) + 2) ⊎ (y ≡ 4 * (m - 1) + 3)) (sym next)
+                    (⊎_elim (λ at2. inl (is ∙ at2)) (λ at3. inr (is ∙ at3)) busy.1),
+              ),
             ),
           )
 
-  pub posts : (slots id k : ℕ) (me : M) (x : T) → me.0.sends ≡ true → me.0.receives ≡ false → me.0.holds ≡ true → me.0.next ≡ k → me.1 ≡ (0, Some x) ∷ [] → is_item me.0.name k x
-      → Allows (LaneOk is_item name) slots id me 0 (λ _. 4 * k + 2) (λ _. Posts (step slots 0 (4 * k + 2) 0 maybe.none) me (4 * k + 2))
-  posts slots id k me x sends deaf holds next carried item s r wide at small =
-      (
-        passed me.0,
-        gives,
-        tt,
-        subst (λ (hs : List (maybe.Option (Option T))). LaneOk is_item name (record { words = set s.words 0 (4 * k + 2); homes = hs; views = set s.views id (passed me.0) })) homes
-        (sender_moves s r id k full (4 * k + 2) (maybe.some (Some x) ∷ []) me.0 (passed me.0) at sends refl (x, refl, its_item) refl deaf (ap (λ (m : ℕ). m + 1) next) refl
+  pub posts : (slots id k : ℕ) (me : M) (x : T) → me.0.sends ≡ true → me.0.receives ≡ false → me.0.holds ≡ true → me.0.next ≡ k
+      → me.1 ≡ (0, Some x) ∷ [] → is_item me.0.name k x
+      → Allows (LaneOk is_item name) slots id me GATE (λ _. 4 * k + 2)
+      (λ _. Posts (step slots GATE (4 * k + 2) 0 maybe.none) me (4 * k + 2))
+  posts slots id k me x sends deaf holds next carried item s r wide at small = (
+    passed me.0,
+    gives,
+    tt,
+    subst (λ (hs : List (maybe.Option (Option T))). LaneOk is_item name
+        (record { words = set s.words GATE (4 * k + 2); homes = hs; views = set s.views id (passed me.0) })) homes
+        (sender_moves s r id k full (4 * k + 2) (maybe.some (Some x) ∷ []) me.0 (passed me.0) at sends refl (x, refl, its_item) refl deaf
+        (ap (λ (m : ℕ). m + 1) next) refl
         (sym found.1 ∙ ap (λ (p : Phase). taken r.n p) (sym found.0)) (ap reads (sym found.0))),
-        refl,
-      )
+    refl,
+  )
     where
       mine : (id ≡ r.sender) × (me.0.next ≡ sent r.n r.phase) × (me.0.holds ≡ writes r.phase)
       mine = (r.seats id me.0 at).sends sends
@@ -230,15 +258,17 @@ module _ {N T : Type 0} (is_item : N → ℕ → T → Type 0) (name : N) where
       homes = sym (ap (put_back s.homes) carried ∙ ap (λ (hs : List (maybe.Option (Option T))). set hs 0 (maybe.some (Some x))) out)
 
   pub takes_item : (slots id k : ℕ) (me : M) → me.0.receives ≡ true → me.0.sends ≡ false → me.0.holds ≡ false → me.0.next ≡ k → me.1 ≡ []
-      → Allows (LaneOk is_item name) slots id me 0 (λ y. either (eqb y (4 * k + 2)) (4 * k + 3) y) (Takes is_item (step slots 0 (4 * k + 2) (4 * k + 3) maybe.none) me)
+      → Allows (LaneOk is_item name) slots id me GATE (λ y. either (eqb y (4 * k + 2)) (4 * k + 3) y)
+      (TakesItem is_item (step slots GATE (4 * k + 2) (4 * k + 3) maybe.none) me)
   takes_item slots id k me receives mute idle next none_held s r wide at small =
-      exchanged y (4 * k + 2) (4 * k + 3) (λ word. Comes s id me word (Takes is_item (step slots 0 (4 * k + 2) (4 * k + 3) maybe.none) me y)) hit miss
+      exchanged y (4 * k + 2) (4 * k + 3)
+      (λ word. Comes s id me word (TakesItem is_item (step slots GATE (4 * k + 2) (4 * k + 3) maybe.none) me y)) hit miss
     where
       y : ℕ
-      y = get_or s.words 0 0
+      y = get_or s.words GATE 0
 
       is : y ≡ 4 * r.n + code r.phase
-      is = ap (λ (ws : List ℕ). get_or ws 0 0) r.word
+      is = r.word
 
       mine : (id ≡ r.receiver) × (me.0.next ≡ taken r.n r.phase) × (me.0.holds ≡ reads r.phase)
       mine = (r.seats id me.0 at).receives receives
@@ -249,31 +279,32 @@ module _ {N T : Type 0} (is_item : N → ℕ → T → Type 0) (name : N) where
       quiet : false ≡ reads r.phase
       quiet = sym idle ∙ mine.2
 
-      hit : y ≡ 4 * k + 2 → Comes s id me (4 * k + 3) (Takes is_item (step slots 0 (4 * k + 2) (4 * k + 3) maybe.none) me y)
+      hit : y ≡ 4 * k + 2 → Comes s id me (4 * k + 3) (TakesItem is_item (step slots GATE (4 * k + 2) (4 * k + 3) maybe.none) me y)
       hit same =
           let found = found_full r.n k r.phase number quiet (sym is ∙ same) in
-          let lies : (x : T) × (s.homes ≡ maybe.some (Some x) ∷ []) × is_item name r.n x = subst (λ (p : Phase). Lies is_item name r.n p s.homes) found.0 r.lies in
-          (
+          let lies : (x : T) × (s.homes ≡ maybe.some (Some x) ∷ []) × is_item name r.n x = subst
+          (λ (p : Phase). Lies is_item name r.n p s.homes) found.0 r.lies in (
             seized me.0,
             takes 0 (Some lies.0),
             ap (λ (hs : List (maybe.Option (Option T))). get_elem? hs 0) lies.1,
             receiver_moves s r id k reading (4 * k + 3) (set s.homes 0 maybe.none) me.0 (seized me.0) at receives refl
-            (ap (λ (hs : List (maybe.Option (Option T))). set hs 0 maybe.none) lies.1) refl mute (ap (λ (m : ℕ). m + 1) next) refl
-            (ap (λ (m : ℕ). m + 1) (sym found.1) ∙ ap (λ (p : Phase). sent r.n p) (sym found.0)) (ap writes (sym found.0)),
+                (ap (λ (hs : List (maybe.Option (Option T))). set hs 0 maybe.none) lies.1) refl mute (ap (λ (m : ℕ). m + 1) next) refl
+                (ap (λ (m : ℕ). m + 1) (sym found.1) ∙ ap (λ (p : Phase). sent r.n p) (sym found.0)) (ap writes (sym found.0)),
             (
               (λ _. (
                 lies.0,
                 ap (λ (held : List (ℕ × Option T)). (seized me.0, (0, Some lies.0) ∷ held)) none_held,
-                subst (λ (m : N). is_item m me.0.next lies.0) (sym (r.seats id me.0 at).named) (subst (λ (m : ℕ). is_item name m lies.0) (found.1 ∙ sym next) lies.2),
+                subst (λ (m : N). is_item m me.0.next lies.0) (sym (r.seats id me.0 at).named)
+                    (subst (λ (m : ℕ). is_item name m lies.0) (found.1 ∙ sym next) lies.2),
               )),
               (λ differ. absurd (differ same)),
             ),
           )
 
-      miss : y ≢ 4 * k + 2 → Comes s id me y (Takes is_item (step slots 0 (4 * k + 2) (4 * k + 3) maybe.none) me y)
+      miss : y ≢ 4 * k + 2 → Comes s id me y (TakesItem is_item (step slots GATE (4 * k + 2) (4 * k + 3) maybe.none) me y)
       miss differ =
-          let early : y < 4 * k + 2 = subst (λ (m : ℕ). m < 4 * k + 2) (sym is) (found_empty r.n k r.phase number quiet (λ same. differ (is ∙ same))) in
-          (
+          let early : y < 4 * k + 2 = subst (λ (m : ℕ). m < 4 * k + 2) (sym is)
+          (found_empty r.n k r.phase number quiet (λ same. differ (is ∙ same))) in (
             missed me.0 y,
             keeps,
             tt,
@@ -281,17 +312,20 @@ module _ {N T : Type 0} (is_item : N → ℕ → T → Type 0) (name : N) where
             ((λ same. absurd (differ same)), λ _. (refl, subst (λ (m : ℕ). y < 4 * m + 2) (sym next) early)),
           )
 
-  pub clears : (slots id k : ℕ) (me : M) → me.0.receives ≡ true → me.0.sends ≡ false → me.0.holds ≡ true → me.0.next ≡ k + 1 → me.1 ≡ (0, None) ∷ []
-      → Allows (LaneOk is_item name) slots id me 0 (λ _. 4 * k + 4) (λ _. Clears (step slots 0 (4 * k + 4) 0 maybe.none) me (4 * k + 4))
+  pub clears : (slots id k : ℕ) (me : M) → me.0.receives ≡ true → me.0.sends ≡ false → me.0.holds ≡ true → me.0.next ≡ k + 1
+      → me.1 ≡ (0, None) ∷ []
+      → Allows (LaneOk is_item name) slots id me GATE (λ _. 4 * k + 4)
+      (λ _. Clears (step slots GATE (4 * k + 4) 0 maybe.none) me (4 * k + 4))
   clears slots id k me receives mute holds next carried s r wide at small =
-      let again : 4 * k + 4 ≡ 4 * (k + 1) + code free = omega arith in
-      (
+      let again : 4 * k + 4 ≡ 4 * (k + 1) + code free = omega arith in (
         freed me.0,
         gives,
         tt,
-        subst (λ (hs : List (maybe.Option (Option T))). LaneOk is_item name (record { words = set s.words 0 (4 * k + 4); homes = hs; views = set s.views id (freed me.0) })) homes
-        (receiver_moves s r id (k + 1) free (4 * k + 4) (maybe.some None ∷ []) me.0 (freed me.0) at receives again refl refl mute next refl
-        (sym found.1 ∙ ap (λ (p : Phase). sent r.n p) (sym found.0)) (ap writes (sym found.0))),
+        subst (λ (hs : List (maybe.Option (Option T))). LaneOk is_item name
+            (record { words = set s.words GATE (4 * k + 4); homes = hs; views = set s.views id (freed me.0) })) homes
+            (receiver_moves s r id (k + 1) free (4 * k + 4) (maybe.some None ∷ []) me.0 (freed me.0) at receives again refl refl mute next
+            refl
+            (sym found.1 ∙ ap (λ (p : Phase). sent r.n p) (sym found.0)) (ap writes (sym found.0))),
         refl,
       )
     where
@@ -309,13 +343,15 @@ module _ {N T : Type 0} (is_item : N → ℕ → T → Type 0) (name : N) where
 
   -- ---- the start
 
-  pub begins : LaneOk is_item name (opening (0 ∷ []) (None ∷ []) (both_roles name))
-  begins = record {
+  pub begins : (words : List ℕ) → length words ≡ WORDS → get_or words GATE 0 ≡ 0
+      → LaneOk is_item name (opening words (None ∷ []) (both_roles name))
+  begins words width word = record {
     n = 0;
     phase = free;
     sender = 0;
     receiver = 0;
-    word = refl;
+    width = width;
+    word = word;
     lies = refl;
     seats = only;
   }
@@ -335,9 +371,11 @@ module _ {N T : Type 0} (is_item : N → ℕ → T → Type 0) (name : N) where
     phase = r.phase;
     sender = id;
     receiver = length s.views;
+    width = r.width;
     word = r.word;
     lies = r.lies;
-    seats = λ j u there. ⊎_elim (λ before. ⊎_elim (mine j u) (other j u) (at_set s.views id j (sender_note v) u before)) (new j u) (at_end (set s.views id (sender_note v)) (receiver_note v) u j there);
+    seats = λ j u there. ⊎_elim (λ before. ⊎_elim (mine j u) (other j u) (at_set s.views id j (sender_note v) u before)) (new j u)
+        (at_end (set s.views id (sender_note v)) (receiver_note v) u j there);
   }
     where
       its : Fits name r.n r.phase r.sender r.receiver id v
@@ -357,7 +395,8 @@ module _ {N T : Type 0} (is_item : N → ℕ → T → Type 0) (name : N) where
         receives = λ yes. absurd (there.0 (((r.seats j u there.1).receives yes).0 ∙ sym (its.receives receives).0));
       }
 
-      new : (j : ℕ) (u : V) → (j ≡ length (set s.views id (sender_note v))) × (receiver_note v ≡ u) → Fits name r.n r.phase id (length s.views) j u
+      new : (j : ℕ) (u : V) → (j ≡ length (set s.views id (sender_note v))) × (receiver_note v ≡ u)
+          → Fits name r.n r.phase id (length s.views) j u
       new j u here = subst (λ (w : V). Fits name r.n r.phase id (length s.views) j w) here.1 (record {
         named = its.named;
         sends = λ speaks. absurd (off speaks);
@@ -369,9 +408,11 @@ module _ {N T : Type 0} (is_item : N → ℕ → T → Type 0) (name : N) where
   -- after a claim and the exchange the sender holds the box with the item in it, and may post it
   pub posts_next : (slots id k : ℕ) (m m1 m2 : M) (x : T) → m.0.sends ≡ true → m.0.receives ≡ false → m.0.next ≡ k
       → m1 ≡ (holding m.0, (0, None) ∷ []) → m2 ≡ (m1.0, (0, Some x) ∷ rest m1.1) → is_item m.0.name k x
-      → Allows (LaneOk is_item name) slots id m2 0 (λ _. 4 * k + 2) (λ _. Posts (step slots 0 (4 * k + 2) 0 maybe.none) m2 (4 * k + 2))
+      → Allows (LaneOk is_item name) slots id m2 GATE (λ _. 4 * k + 2)
+      (λ _. Posts (step slots GATE (4 * k + 2) 0 maybe.none) m2 (4 * k + 2))
   posts_next slots id k m m1 m2 x sends deaf next claimed filled item =
-      subst (λ (u : M). Allows (LaneOk is_item name) slots id u 0 (λ _. 4 * k + 2) (λ _. Posts (step slots 0 (4 * k + 2) 0 maybe.none) u (4 * k + 2)))
+      subst (λ (u : M). Allows (LaneOk is_item name) slots id u GATE (λ _. 4 * k + 2)
+      (λ _. Posts (step slots GATE (4 * k + 2) 0 maybe.none) u (4 * k + 2)))
       (sym (filled ∙ ap (λ (u : M). (u.0, (0, Some x) ∷ rest u.1)) claimed))
       (posts slots id k (holding m.0, (0, Some x) ∷ []) x sends deaf refl next refl item)
 
@@ -384,8 +425,10 @@ module _ {N T : Type 0} (is_item : N → ℕ → T → Type 0) (name : N) where
   -- and after the exchange it holds it empty, and may clear the word
   pub clears_next : (slots id k : ℕ) (m m1 m2 : M) (x : T) → m.0.receives ≡ true → m.0.sends ≡ false → m.0.next ≡ k
       → m1 ≡ (seized m.0, (0, Some x) ∷ []) → m2 ≡ (m1.0, (0, None) ∷ rest m1.1)
-      → Allows (LaneOk is_item name) slots id m2 0 (λ _. 4 * k + 4) (λ _. Clears (step slots 0 (4 * k + 4) 0 maybe.none) m2 (4 * k + 4))
+      → Allows (LaneOk is_item name) slots id m2 GATE (λ _. 4 * k + 4)
+      (λ _. Clears (step slots GATE (4 * k + 4) 0 maybe.none) m2 (4 * k + 4))
   clears_next slots id k m m1 m2 x receives mute next seized_it emptied =
-      subst (λ (u : M). Allows (LaneOk is_item name) slots id u 0 (λ _. 4 * k + 4) (λ _. Clears (step slots 0 (4 * k + 4) 0 maybe.none) u (4 * k + 4)))
+      subst (λ (u : M). Allows (LaneOk is_item name) slots id u GATE (λ _. 4 * k + 4)
+      (λ _. Clears (step slots GATE (4 * k + 4) 0 maybe.none) u (4 * k + 4)))
       (sym (emptied ∙ ap (λ (u : M). (u.0, (0, None) ∷ rest u.1)) seized_it))
       (clears slots id k (seized m.0, (0, None) ∷ []) receives mute refl (ap (λ (n : ℕ). n + 1) next) refl)

@@ -1,9 +1,10 @@
 -- The gate word `4n + phase`, where the box is in each phase, and what the five kinds of step tell.
-use Rattle.std.specs.Prelude.{◌≡◌, ◌≢◌, ◌⊎◌, ℕ, ◌+◌, ◌-◌, ◌*◌, ◌<◌, Bool, true, false, List, [], ◌∷◌, Option, Some, None}
+use Rattle.std.specs.Prelude.{◌≡◌, ◌≢◌, ◌⊎◌, ℕ, ◌+◌, ◌-◌, ◌*◌, ◌<◌, Bool, true, false, List, [], ◌∷◌, Option, Some, None, length, slice_index}
 use mathlib.Core.Option as maybe
 use lib.ListN.{get_elem?}
 use Rattle.atomic_table.specs.Table.{State, Me, Step, rest}
 use Rattle.gate_box.specs.declared.rule.Note.{Note}
+use Rattle.gate_box.specs.declared.rule.TheConstants.{GATE, WORDS}
 
 -- the box is empty and at home; the sender holds it; it is at home with the item; the receiver holds it
 pub data Phase : Type 0 where
@@ -57,13 +58,15 @@ pub record Fits {N : Type 0} (name : N) (n : ℕ) (phase : Phase) (sender receiv
   pub sends : v.sends ≡ true → (j ≡ sender) × (v.next ≡ sent n phase) × (v.holds ≡ writes phase)
   pub receives : v.receives ≡ true → (j ≡ receiver) × (v.next ≡ taken n phase) × (v.holds ≡ reads phase)
 
--- the rule of a lane: a round and a phase by which the word, the box and all seats stand; each role is one seat's alone
+-- the rule of a lane: a round and a phase by which the gate word, the box and all seats stand; each role is one seat's alone
+-- (the words beside the gate word are never used: they keep other data out of its cache line)
 pub record LaneOk {N T : Type 0} (is_item : N → ℕ → T → Type 0) (name : N) (s : State (Option T) (Note N)) : Type 0 where
   pub n : ℕ
   pub phase : Phase
   pub sender : ℕ
   pub receiver : ℕ
-  pub word : s.words ≡ (4 * n + code phase) ∷ []
+  pub width : length s.words ≡ WORDS
+  pub word : slice_index s.words GATE ≡ 4 * n + code phase
   pub lies : Lies is_item name n phase s.homes
   pub seats : (j : ℕ) (v : Note N) → get_elem? s.views j ≡ maybe.some v → Fits name n phase sender receiver j v
 
@@ -101,14 +104,16 @@ missed v found = record v { found = found; misses = v.misses + 1 }
 abbrev pub Claims : {T N : Type 0} → Step (Option T) → Me (Option T) (Note N) → ℕ → Me (Option T) (Note N) → Type 0
 Claims st m found w =
     (found ≡ st.first → w ≡ (holding m.0, (0, None) ∷ []))
-    × (found ≢ st.first → (w ≡ (missed m.0 found, m.1)) × (0 < m.0.next) × ((found ≡ 4 * (m.0.next - 1) + 2) ⊎ (found ≡ 4 * (m.0.next - 1) + 3)))
+    × (found ≢ st.first → (w ≡ (missed m.0 found, m.1)) × (0 < m.0.next) ×
+    ((found ≡ 4 * (m.0.next - 1) + 2) ⊎ (found ≡ 4 * (m.0.next - 1) + 3)))
 
 abbrev pub Posts : {T N : Type 0} → Step (Option T) → Me (Option T) (Note N) → ℕ → Me (Option T) (Note N) → Type 0
 Posts st m found w = w ≡ (passed m.0, rest m.1)
 
 -- a take gets the box with an item of this number where the word was the wanted one; else it is a miss, and the item isn't there yet
-abbrev pub Takes : {N T : Type 0} → (N → ℕ → T → Type 0) → Step (Option T) → Me (Option T) (Note N) → ℕ → Me (Option T) (Note N) → Type 0
-Takes {T = T} is_item st m found w =
+abbrev pub TakesItem : {N T : Type 0} → (N → ℕ → T → Type 0)
+    → Step (Option T) → Me (Option T) (Note N) → ℕ → Me (Option T) (Note N) → Type 0
+TakesItem {T = T} is_item st m found w =
     (found ≡ st.first → (x : T) × (w ≡ (seized m.0, (0, Some x) ∷ [])) × is_item m.0.name m.0.next x)
     × (found ≢ st.first → (w ≡ (missed m.0 found, m.1)) × (found < 4 * m.0.next + 2))
 

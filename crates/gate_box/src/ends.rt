@@ -2,7 +2,7 @@ ghost use Rattle.std.specs.Prelude.{◌≡◌, ◌⊎◌, ◌+◌, ◌-◌, ◌*
 ghost use Rattle.std.specs.Arc.{arc_value};
 
 use crate::lane::Lane;
-use crate::rule::{Claim, Clear, GateTable, Note, Post, Take};
+use crate::rule::{Claim, Clear, GATE, GateTable, Note, Post, Take, WORDS};
 use atomic_table::Seat;
 use std::alloc::Global;
 use std::marker::Model;
@@ -32,6 +32,7 @@ pub struct Sender<L: Lane> {
 impl<L: Lane> Model for Sender<L> {
     ghost use Rattle.std.specs.Prelude.{◌≡◌, true, false, []};
     ghost use Rattle.std.specs.Arc.{arc_value};
+    ghost use Rattle.gate_box.specs.declared.rule.TheConstants.{WORDS};
     ghost use Rattle.gate_box.specs.EndView.{EndView};
 
     ghost Value = { EndView L.Name };
@@ -40,7 +41,7 @@ impl<L: Lane> Model for Sender<L> {
 
     ghost invariant = { λ s.
         (s.seat.table_id ≡ (arc_value s.table).shared.table_id)
-        × (s.seat.table_id.words ≡ 1)
+        × (s.seat.table_id.words ≡ WORDS)
         × (s.seat.table_id.slots ≡ 1)
         × (s.seat.me.0.sends ≡ true)
         × (s.seat.me.0.receives ≡ false)
@@ -60,6 +61,7 @@ pub struct Receiver<L: Lane> {
 impl<L: Lane> Model for Receiver<L> {
     ghost use Rattle.std.specs.Prelude.{◌≡◌, true, false, []};
     ghost use Rattle.std.specs.Arc.{arc_value};
+    ghost use Rattle.gate_box.specs.declared.rule.TheConstants.{WORDS};
     ghost use Rattle.gate_box.specs.EndView.{EndView};
 
     ghost Value = { EndView L.Name };
@@ -68,7 +70,7 @@ impl<L: Lane> Model for Receiver<L> {
 
     ghost invariant = { λ s.
         (s.seat.table_id ≡ (arc_value s.table).shared.table_id)
-        × (s.seat.table_id.words ≡ 1)
+        × (s.seat.table_id.words ≡ WORDS)
         × (s.seat.table_id.slots ≡ 1)
         × (s.seat.me.0.sends ≡ false)
         × (s.seat.me.0.receives ≡ true)
@@ -84,7 +86,7 @@ impl<L: Lane> Sender<L> {
         seat: Seat<Option<L::Item>, Note<L::Name>>,
     ) -> Sender<L>
         requires table { seat.table_id ≡ (arc_value table).shared.table_id }
-        requires one { (seat.table_id.words ≡ 1) × (seat.table_id.slots ≡ 1) }
+        requires one { (seat.table_id.words ≡ WORDS) × (seat.table_id.slots ≡ 1) }
         requires role { (seat.me.0.sends ≡ true) × (seat.me.0.receives ≡ false) }
         requires first { (seat.me.0.next ≡ 0) × (seat.me.0.holds ≡ false) × (seat.me.1 ≡ []) }
         ensures { result ≡ record { name = seat.me.0.name; next = 0; misses = seat.me.0.misses; found = seat.me.0.found } }
@@ -117,7 +119,7 @@ impl<L: Lane> Sender<L> {
     {
         let free = 4 * self.next;
         let shared = &self.table.shared;
-        let found = shared.compare_exchange::<Claim>(&mut self.seat, 0, free, free + 1);
+        let found = shared.compare_exchange::<Claim>(&mut self.seat, GATE, free, free + 1);
         if found != free {
             return Err(LaneBusy { item, seen: found });
         }
@@ -125,7 +127,7 @@ impl<L: Lane> Sender<L> {
             None => {}
             Some(_) => unreachable!(),
         }
-        shared.store::<Post>(&mut self.seat, 0, free + 2);
+        shared.store::<Post>(&mut self.seat, GATE, free + 2);
         self.next += 1;
         Ok(())
     }
@@ -138,7 +140,7 @@ impl<L: Lane> Receiver<L> {
         seat: Seat<Option<L::Item>, Note<L::Name>>,
     ) -> Receiver<L>
         requires table { seat.table_id ≡ (arc_value table).shared.table_id }
-        requires one { (seat.table_id.words ≡ 1) × (seat.table_id.slots ≡ 1) }
+        requires one { (seat.table_id.words ≡ WORDS) × (seat.table_id.slots ≡ 1) }
         requires role { (seat.me.0.sends ≡ false) × (seat.me.0.receives ≡ true) }
         requires first { (seat.me.0.next ≡ 0) × (seat.me.0.holds ≡ false) × (seat.me.1 ≡ []) }
         ensures { result ≡ record { name = seat.me.0.name; next = 0; misses = seat.me.0.misses; found = seat.me.0.found } }
@@ -170,12 +172,12 @@ impl<L: Lane> Receiver<L> {
     {
         let round = 4 * self.next;
         let shared = &self.table.shared;
-        let found = shared.compare_exchange::<Take<L>>(&mut self.seat, 0, round + 2, round + 3);
+        let found = shared.compare_exchange::<Take<L>>(&mut self.seat, GATE, round + 2, round + 3);
         if found != round + 2 {
             return Err(LaneEmpty { seen: found });
         }
         let item = shared.exchange(&mut self.seat, 0, None).unwrap();
-        shared.store::<Clear>(&mut self.seat, 0, round + 4);
+        shared.store::<Clear>(&mut self.seat, GATE, round + 4);
         self.next += 1;
         Ok(item)
     }

@@ -11,3 +11,6 @@ mod rule;
 pub use ends::{LaneBusy, LaneEmpty, Receiver, Sender};
 pub use lane::Lane;
 pub use opening::pair;
+
+#[cfg(test)]
+mod tests;

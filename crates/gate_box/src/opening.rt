@@ -2,7 +2,7 @@ ghost use Rattle.std.specs.Prelude.{◌≡◌, IfOk};
 
 use crate::ends::{Receiver, Sender};
 use crate::lane::Lane;
-use crate::rule::{GateTable, Roles};
+use crate::rule::{GateTable, Roles, WORDS};
 use mn_base::NoMemory;
 use std::alloc::Global;
 use std::sync::Arc;
@@ -12,7 +12,7 @@ pub fn pair<L: Lane>(alloc: Global, name: L::Name) -> Result<(Sender<L>, Receive
     ensures sender { IfOk result (λ ends. ends.0 ≡ record { name = name; next = 0; misses = 0; found = 0 }) }
     ensures receiver { IfOk result (λ ends. ends.1 ≡ record { name = name; next = 0; misses = 0; found = 0 }) }
 {
-    let (table, mut seat) = GateTable::<L>::vacant(alloc, &[0], 1, &name)?;
+    let (table, mut seat) = GateTable::<L>::vacant(alloc, &[0; WORDS], 1, &name)?;
     let other = table.shared.split_seat::<Roles>(&mut seat);
     let mine = Arc::new(alloc, table)?;
     let theirs = Arc::try_clone(&mine)?;

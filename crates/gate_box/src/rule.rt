@@ -4,6 +4,12 @@ use atomic_table::{Play, Split, Table, TableRule};
 use std::alloc::Global;
 use std::marker::PhantomData;
 
+/// Words of a lane's table. All but the gate word stay 0: whatever the block's place, the cache line of the gate word lies inside it.
+pub(crate) const WORDS: usize = 16;
+
+/// Which of them is the gate word.
+pub(crate) const GATE: usize = 8;
+
 /// What a seat at the table knows.
 pub struct Note<N> {
     pub sends: bool,
@@ -63,9 +69,9 @@ pub struct Take<L> {
 }
 
 impl<L: Lane> Play<Option<L::Item>, Note<L::Name>> for Take<L> {
-    ghost use Rattle.gate_box.specs.Gate.{Takes};
+    ghost use Rattle.gate_box.specs.Gate.{TakesItem};
 
-    ghost then = { Takes L.is_item };
+    ghost then = { TakesItem L.is_item };
 }
 
 /// The receiver gives the empty box.

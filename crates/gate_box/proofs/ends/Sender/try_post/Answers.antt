@@ -5,17 +5,20 @@ use Rattle.gate_box.proofs.ends.Sender.try_post.Goals as goal
 
 pub compare_exchange-found-requires : goal.compare_exchange-found-requires
 compare_exchange-found-requires g c =
-    let i = c.self.invariant in
-    (search rules, search rules, claims g.L.Lane.is_item c.deref.result.now.shared.key _ c.self.inside.seat.id c.self.inside.next c.self.inside.seat.me i.3 i.4 i.6 i.5 i.7)
+    let i = c.self.invariant in (
+      search rules,
+      search rules,
+      claims g.L.Lane.is_item c.deref.result.now.shared.key _ c.self.inside.seat.id c.self.inside.next
+          c.self.inside.seat.me i.3 i.4 i.6 i.5 i.7,
+    )
 
 pub store-requires : goal.store-requires
 store-requires g c =
-    let i = c.self.invariant in
-    (
+    let i = c.self.invariant in (
       search rules,
       search rules,
       posts_next g.L.Lane.is_item c.deref.result.now.shared.key _ _ c.self.inside.next c.self.inside.seat.me _ _ c.args.item i.3 i.4 i.5
-      (c.compare_exchange-found.ensures.2.0 c.if-found-free.false)
-      c.exchange.ensures.3
-      (subst (λ (v : EndView _). g.L.Lane.is_item v.name v.next c.args.item) (sym c.self.view_is) c.requires.item),
+          (c.compare_exchange-found.ensures.2.0 c.if-found-free.false)
+          c.exchange.ensures.3
+          (subst (λ (v : EndView _). g.L.Lane.is_item v.name v.next c.args.item) (sym c.self.view_is) c.requires.item),
     )
