@@ -28,7 +28,7 @@ DRIVER = {
 
 ghost use Rattle.std.specs.Prelude.{◌≡◌, ◌⊎◌, ℕ, ◌+◌, ◌<◌, ◌↔◌, [], IfOk, OnOk};
 ghost use Rattle.mn_base.specs.Among.{Among};
-ghost use Rattle.deadline_heap.specs.declared.due.Due.{Due};
+ghost use Rattle.mn_base.specs.declared.due.Due.{Due};
 ghost use Rattle.deadline_heap.specs.Canonical.{HasNoneOf};
 ghost use Rattle.heap_calls.specs.Packets.{AreAbove, AreBelow};
 
@@ -228,7 +228,7 @@ fn main(rt: HostRuntime) -> anyhow::Result<()> {
     "specs/Packets.antt": r"""-- The packets of a heap, all below or all above a number.
 use Rattle.std.specs.Prelude.{ℕ, ◌<◌, List}
 use Rattle.mn_base.specs.Among.{Among}
-use Rattle.deadline_heap.specs.declared.due.Due.{Due}
+use Rattle.mn_base.specs.declared.due.Due.{Due}
 
 abbrev pub AreBelow : ℕ → List Due → Type 0
 AreBelow end visits = (other : Due) → Among other visits → other.packet < end
@@ -242,7 +242,7 @@ AreAbove below visits = (other : Due) → Among other visits → below < other.p
 use Rattle.std.proofs.Common.{◌≡◌, ◌⊎◌, inl, inr, ⊎_elim, ℕ, ◌+◌, ◌<◌, ◌≤◌, List, [], ◌∷◌, Option, Some, None, Result, Ok, Err, refl, sym, ap, subst, arith}
 use Rattle.std.specs.Prelude.{◌↔◌, OnOk, IfNone, IfSome}
 use Rattle.mn_base.specs.Among.{Among}
-use Rattle.deadline_heap.specs.declared.due.Due.{Due}
+use Rattle.mn_base.specs.declared.due.Due.{Due}
 use Rattle.heap_calls.specs.Packets.{AreAbove, AreBelow}
 
 pub more_below : {E : Type 0} (r : Result (Unit {0}) E) (packet : ℕ) (due : Due) (old new : List Due) → due.packet ≡ packet → AreBelow packet old
@@ -318,7 +318,7 @@ abbrev pub invariant-loop-packet : goal.invariant-loop-packet
 invariant-loop-packet l = (below : ℕ) → below < l.packet → AreAbove below l.heap
 """,
     "proofs/step/Answers.antt": r"""use Rattle.std.proofs.Common.{refl, subst, sym, Option, None}
-use Rattle.deadline_heap.specs.declared.due.Due.{Due}
+use Rattle.mn_base.specs.declared.due.Due.{Due}
 use Rattle.heap_calls.proofs.Kept.{fewer, moved}
 use Rattle.heap_calls.proofs.step.Goals as goal
 
