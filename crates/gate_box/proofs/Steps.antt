@@ -1,9 +1,9 @@
 -- Each kind of step keeps the rule of a lane, and tells what its play says.
-use Rattle.std.proofs.Common.{◌≡◌, ◌≢◌, ◌⊎◌, inl, inr, ⊎_elim, ℕ, zero, suc, ◌+◌, ◌-◌, ◌*◌, ◌<◌, ◌≤◌, eqb, Bool, true, false, true≢false, List, [], ◌∷◌, ◌++◌, length, set, get_or, Option, Some, None, refl, sym, ap, ◌∙◌, subst, arith, length-set, lit<}
+use Rattle.std.proofs.Common.{◌≡◌, ◌≢◌, ◌⊎◌, inl, inr, ⊎_elim, ℕ, zero, suc, ◌+◌, ◌-◌, ◌*◌, ◌<◌, eqb, true, false, true≢false, List, [], ◌∷◌, ◌++◌, length, set, get_or, Option, Some, None, refl, sym, ap, ◌∙◌, subst, arith, length-set, lit<}
 use mathlib.Core.Option as maybe
 use lib.ListN.{get_elem?}
 use prog.Atomic.{either}
-use Rattle.atomic_table.specs.Table.{State, Me, Act, step, rest, stepped, keeps, takes, gives, chain, Valid, carried_after, put_back, Allows, Splits, opening}
+use Rattle.atomic_table.specs.Table.{State, Me, Act, step, rest, stepped, keeps, takes, gives, Valid, carried_after, put_back, Allows, Splits, opening}
 use Rattle.atomic_table.proofs.Lists.{at_set, exchanged}
 use Rattle.std.proofs.lemmas.List.{get_or-set_same}
 use Rattle.gate_box.specs.declared.rule.Note.{Note}
