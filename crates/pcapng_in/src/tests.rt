@@ -114,43 +114,66 @@ fn each_prefix_is_told(rt: HostRuntime) -> Result<(), Fail> {
     Ok(())
 }
 
+/// A byte of the file of one packet, what it is replaced by, and the fault.
+const FAULTY_FIELDS: [(usize, u8, NgFault); 18] = [
+    // the magic, the length at both ends, and the version of a section
+    (11, 0, NgFault::Magic(0)),
+    (4, 29, NgFault::Length(0)),
+    (4, 24, NgFault::Length(0)),
+    (4, 32, NgFault::Length(0)),
+    (5, 1, NgFault::Cut(0)),
+    (24, 0, NgFault::Length(0)),
+    (12, 2, NgFault::Version(0)),
+    // an interface
+    (32, 16, NgFault::Length(28)),
+    (36, 0x66, NgFault::LinkType(28)),
+    // a packet: interface 1, a time of 2^56 us, lengths, data that don't fit
+    (56, 1, NgFault::Interface(48)),
+    (63, 1, NgFault::TimeRange(48)),
+    (69, 4, NgFault::Data(48)),
+    (70, 4, NgFault::TooLong(48)),
+    (71, 1, NgFault::TooLong(48)),
+    (75, 1, NgFault::TooLong(48)),
+    (68, 5, NgFault::Data(48)),
+    (80, 35, NgFault::Length(48)),
+    (52, 28, NgFault::Length(48)),
+];
+
+/// The same with the number of packets that are read: minor version, section length and reserved bytes aren't looked at, another
+/// link type is read, fewer bytes are captured, and a block of another type is skipped.
+const FREE_FIELDS: [(usize, u8, usize); 6] = [
+    (14, 9, 1),
+    (16, 0, 1),
+    (38, 9, 1),
+    (36, 1, 1),
+    (68, 1, 1),
+    (48, 7, 0),
+];
+
 #[test]
 fn each_field_is_tested(rt: HostRuntime) -> Result<(), Fail> {
-    for (place, byte, want) in [
-        // the magic, the length at both ends, and the version of a section
-        (11, 0, faulty(NgFault::Magic(0))),
-        (4, 29, faulty(NgFault::Length(0))),
-        (4, 24, faulty(NgFault::Length(0))),
-        (4, 32, faulty(NgFault::Length(0))),
-        (5, 1, faulty(NgFault::Cut(0))),
-        (24, 0, faulty(NgFault::Length(0))),
-        (12, 2, faulty(NgFault::Version(0))),
-        // minor version and section length aren't looked at
-        (14, 9, Ok(1)),
-        (16, 0, Ok(1)),
-        // an interface
-        (32, 16, faulty(NgFault::Length(28))),
-        (36, 0x66, faulty(NgFault::LinkType(28))),
-        (36, 1, Ok(1)),
-        (38, 9, Ok(1)),
-        // a packet: interface 1, a time of 2^56 us, lengths, data that don't fit
-        (56, 1, faulty(NgFault::Interface(48))),
-        (63, 1, faulty(NgFault::TimeRange(48))),
-        (69, 4, faulty(NgFault::Data(48))),
-        (71, 1, faulty(NgFault::TooLong(48))),
-        (75, 1, faulty(NgFault::TooLong(48))),
-        (68, 5, faulty(NgFault::Data(48))),
-        (68, 1, Ok(1)),
-        (80, 35, faulty(NgFault::Length(48))),
-        // another type is skipped
-        (48, 7, Ok(0)),
-    ] {
+    for (place, byte, fault) in FAULTY_FIELDS {
         let mut text = joined(rt.alloc(), &[&SECTION, &INTERFACE, &PACKET])?;
         assert!(rt; place < text.len());
         text[place] = byte;
         assert_eq!(rt;
             answer(&rt, rt.alloc(), text.as_slice()),
-            want,
+            faulty(fault),
+            "{byte} at {place}"
+        );
+    }
+    Ok(())
+}
+
+#[test]
+fn other_fields_are_free(rt: HostRuntime) -> Result<(), Fail> {
+    for (place, byte, packets) in FREE_FIELDS {
+        let mut text = joined(rt.alloc(), &[&SECTION, &INTERFACE, &PACKET])?;
+        assert!(rt; place < text.len());
+        text[place] = byte;
+        assert_eq!(rt;
+            answer(&rt, rt.alloc(), text.as_slice()),
+            Ok(packets),
             "{byte} at {place}"
         );
     }
@@ -257,69 +280,83 @@ fn a_simple_packet_takes_the_time_before_and_the_snaplen(rt: HostRuntime) -> Res
     Ok(())
 }
 
-/// An interface with options: their bytes, and the block's length, which is 20 more.
-fn with_options(alloc: Global, options: &[u8], len: u8) -> Result<Vec<u8>, Fail> {
+/// An interface whose options are so many of these bytes.
+fn with_options(
+    rt: &impl Abort,
+    alloc: Global,
+    options: &[u8; 16],
+    count: usize,
+) -> Result<Vec<u8>, Fail> {
+    assert!(rt; count <= 16);
     let (front, _) = INTERFACE.as_slice().split_at(16);
-    let mut block = joined(alloc, &[front, options, &[len, 0, 0, 0]])?;
-    if block.len() > 4 {
-        block[4] = len;
-    }
+    let len = (20 + count) as u8;
+    let mut block = joined(
+        alloc,
+        &[front, options.as_slice().split_at(count).0, &[len, 0, 0, 0]],
+    )?;
+    assert!(rt; block.len() > 4);
+    block[4] = len;
     Ok(block)
 }
 
-/// A packet at 1 * 2^32 + 1,500,000,001 units.
-fn late_packet() -> [u8; 36] {
-    let mut packet = PACKET;
-    packet[12] = 1;
-    packet[16] = 0x01;
-    packet[17] = 0x2f;
-    packet[18] = 0x68;
-    packet[19] = 0x59;
-    packet
-}
+/// A packet at 2^32 + 1,500,000,001 units, that is 5,794,967,297.
+const LATE_PACKET: [u8; 36] = [
+    6, 0, 0, 0, 36, 0, 0, 0, 0, 0, 0, 0, 1, 0, 0, 0, 0x01, 0x2f, 0x68, 0x59, 4, 0, 0, 0, 0xe8, 3,
+    0, 0, 0xde, 0xad, 0xbe, 0xef, 36, 0, 0, 0,
+];
 
-/// The times are those of 5,794,967,297 units: floor(units * 10^9 / rate).
+/// Options, how many bytes of them, and the packet's time: floor(units * 10^9 / units in a second) ns.
+const TIMES: [([u8; 16], usize, u64); 10] = [
+    ([0; 16], 0, 5_794_967_297_000),
+    (
+        [9, 0, 1, 0, 9, 0, 0, 0, 0, 0, 0, 0, 0, 0, 0, 0],
+        8,
+        5_794_967_297,
+    ),
+    (
+        [9, 0, 1, 0, 12, 0, 0, 0, 0, 0, 0, 0, 0, 0, 0, 0],
+        8,
+        5_794_967,
+    ),
+    ([9, 0, 1, 0, 18, 0, 0, 0, 0, 0, 0, 0, 0, 0, 0, 0], 8, 5),
+    (
+        [9, 0, 1, 0, 3, 0, 0, 0, 0, 0, 0, 0, 0, 0, 0, 0],
+        8,
+        5_794_967_297_000_000,
+    ),
+    (
+        [9, 0, 1, 0, 160, 0, 0, 0, 0, 0, 0, 0, 0, 0, 0, 0],
+        8,
+        1_349_245_965,
+    ),
+    ([9, 0, 1, 0, 191, 0, 0, 0, 0, 0, 0, 0, 0, 0, 0, 0], 8, 0),
+    // another option before, and a second resolution behind
+    (
+        [4, 0, 2, 0, 1, 2, 0, 0, 9, 0, 1, 0, 9, 0, 0, 0],
+        16,
+        5_794_967_297,
+    ),
+    (
+        [9, 0, 1, 0, 9, 0, 0, 0, 9, 0, 1, 0, 6, 0, 0, 0],
+        16,
+        5_794_967_297,
+    ),
+    // options end at code 0
+    (
+        [0, 0, 0, 0, 9, 0, 1, 0, 9, 0, 0, 0, 0, 0, 0, 0],
+        12,
+        5_794_967_297_000,
+    ),
+];
+
 #[test]
 fn the_first_resolution_counts(rt: HostRuntime) -> Result<(), Fail> {
-    for (options, len, time_ns) in [
-        ([0u8; 16].as_slice().split_at(0).0, 20, 5_794_967_297_000),
-        ([9, 0, 1, 0, 9, 0, 0, 0].as_slice(), 28, 5_794_967_297),
-        ([9, 0, 1, 0, 12, 0, 0, 0].as_slice(), 28, 5_794_967),
-        ([9, 0, 1, 0, 18, 0, 0, 0].as_slice(), 28, 5),
-        (
-            [9, 0, 1, 0, 3, 0, 0, 0].as_slice(),
-            28,
-            5_794_967_297_000_000,
-        ),
-        (
-            [9, 0, 1, 0, 128 + 32, 0, 0, 0].as_slice(),
-            28,
-            1_349_245_965,
-        ),
-        ([9, 0, 1, 0, 191, 0, 0, 0].as_slice(), 28, 0),
-        // another option before, and a second resolution behind
-        (
-            [4, 0, 2, 0, 1, 2, 0, 0, 9, 0, 1, 0, 9, 0, 0, 0].as_slice(),
-            36,
-            5_794_967_297,
-        ),
-        (
-            [9, 0, 1, 0, 9, 0, 0, 0, 9, 0, 1, 0, 6, 0, 0, 0].as_slice(),
-            36,
-            5_794_967_297,
-        ),
-        // options end at code 0
-        (
-            [0, 0, 0, 0, 9, 0, 1, 0, 9, 0, 0, 0].as_slice(),
-            32,
-            5_794_967_297_000,
-        ),
-    ] {
-        let interface = with_options(rt.alloc(), options, len)?;
+    for (options, count, time_ns) in TIMES {
+        let interface = with_options(&rt, rt.alloc(), &options, count)?;
         let trace = trace_of(
             &rt,
             rt.alloc(),
-            &[&SECTION, interface.as_slice(), &late_packet()],
+            &[&SECTION, interface.as_slice(), &LATE_PACKET],
         )?;
         let packets = trace.packets();
         assert_eq!(rt; packets.len(), 1);
@@ -328,80 +365,86 @@ fn the_first_resolution_counts(rt: HostRuntime) -> Result<(), Fail> {
     Ok(())
 }
 
+/// Options, how many bytes of them, and the fault.
+const FAULTY_OPTIONS: [([u8; 16], usize, NgFault); 8] = [
+    (
+        [9, 0, 9, 0, 9, 0, 0, 0, 0, 0, 0, 0, 0, 0, 0, 0],
+        8,
+        NgFault::Options(28),
+    ),
+    // an option that runs past the body is found behind a bad resolution
+    (
+        [9, 0, 2, 0, 9, 0, 0, 0, 5, 0, 1, 0, 0, 0, 0, 0],
+        12,
+        NgFault::Options(28),
+    ),
+    (
+        [9, 0, 2, 0, 9, 0, 0, 0, 0, 0, 0, 0, 0, 0, 0, 0],
+        8,
+        NgFault::Resolution(28),
+    ),
+    (
+        [9, 0, 1, 0, 19, 0, 0, 0, 0, 0, 0, 0, 0, 0, 0, 0],
+        8,
+        NgFault::Resolution(28),
+    ),
+    (
+        [9, 0, 1, 0, 127, 0, 0, 0, 0, 0, 0, 0, 0, 0, 0, 0],
+        8,
+        NgFault::Resolution(28),
+    ),
+    (
+        [9, 0, 1, 0, 192, 0, 0, 0, 0, 0, 0, 0, 0, 0, 0, 0],
+        8,
+        NgFault::Resolution(28),
+    ),
+    (
+        [9, 0, 0, 0, 0, 0, 0, 0, 0, 0, 0, 0, 0, 0, 0, 0],
+        4,
+        NgFault::Resolution(28),
+    ),
+    // 4,294,967,296 s and more
+    (
+        [9, 0, 1, 0, 0, 0, 0, 0, 0, 0, 0, 0, 0, 0, 0, 0],
+        8,
+        NgFault::TimeRange(56),
+    ),
+];
+
 #[test]
 fn options_and_resolutions_are_tested(rt: HostRuntime) -> Result<(), Fail> {
-    for (options, len, want) in [
-        (
-            [9, 0, 9, 0, 9, 0, 0, 0].as_slice(),
-            28,
-            faulty(NgFault::Options(28)),
-        ),
-        // an option that runs past the body is found behind a bad resolution
-        (
-            [9, 0, 2, 0, 9, 0, 0, 0, 5, 0, 1, 0].as_slice(),
-            32,
-            faulty(NgFault::Options(28)),
-        ),
-        (
-            [9, 0, 2, 0, 9, 0, 0, 0].as_slice(),
-            28,
-            faulty(NgFault::Resolution(28)),
-        ),
-        (
-            [9, 0, 1, 0, 19, 0, 0, 0].as_slice(),
-            28,
-            faulty(NgFault::Resolution(28)),
-        ),
-        (
-            [9, 0, 1, 0, 127, 0, 0, 0].as_slice(),
-            28,
-            faulty(NgFault::Resolution(28)),
-        ),
-        (
-            [9, 0, 1, 0, 192, 0, 0, 0].as_slice(),
-            28,
-            faulty(NgFault::Resolution(28)),
-        ),
-        ([9, 0, 0, 0].as_slice(), 24, faulty(NgFault::Resolution(28))),
-        // 4,294,967,296 s and more
-        (
-            [9, 0, 1, 0, 0, 0, 0, 0].as_slice(),
-            28,
-            faulty(NgFault::TimeRange(56)),
-        ),
-    ] {
-        let interface = with_options(rt.alloc(), options, len)?;
-        let text = joined(
-            rt.alloc(),
-            &[&SECTION, interface.as_slice(), &late_packet()],
-        )?;
+    for (options, count, fault) in FAULTY_OPTIONS {
+        let interface = with_options(&rt, rt.alloc(), &options, count)?;
+        let text = joined(rt.alloc(), &[&SECTION, interface.as_slice(), &LATE_PACKET])?;
         assert_eq!(rt;
             answer(&rt, rt.alloc(), text.as_slice()),
-            want,
+            faulty(fault),
             "{options:?}"
         );
     }
     Ok(())
 }
 
+/// Each fault with its text.
+const TEXTS: [(NgFault, &str); 13] = [
+    (NgFault::Cut(48), "block at 48 is cut short"),
+    (NgFault::Magic(0), "byte order at 0"),
+    (NgFault::Length(28), "length at 28"),
+    (NgFault::Version(0), "version at 0"),
+    (NgFault::LinkType(28), "link type at 28"),
+    (NgFault::Options(28), "options at 28"),
+    (NgFault::Resolution(28), "resolution at 28"),
+    (NgFault::TooMany, "too many packets"),
+    (NgFault::Interface(48), "interface at 48"),
+    (NgFault::TimeRange(48), "time at 48 out of range"),
+    (NgFault::TooLong(48), "packet at 48 is too long"),
+    (NgFault::Data(48), "packet at 48 is cut short"),
+    (NgFault::NoInterface, "no interface"),
+];
+
 #[test]
 fn faults_print_their_text(rt: HostRuntime) -> Result<(), Fail> {
-    for (fault, text) in [
-        (NgFault::Cut(48), "block at 48 is cut short"),
-        (NgFault::Magic(0), "byte order at 0"),
-        (NgFault::Length(28), "length at 28"),
-        (NgFault::Version(0), "version at 0"),
-        (NgFault::LinkType(28), "link type at 28"),
-        (NgFault::Options(28), "options at 28"),
-        (NgFault::Resolution(28), "resolution at 28"),
-        (NgFault::TooMany, "too many packets"),
-        (NgFault::Interface(48), "interface at 48"),
-        (NgFault::TimeRange(48), "time at 48 out of range"),
-        (NgFault::TooLong(48), "packet at 48 is too long"),
-        (NgFault::Data(48), "packet at 48 is cut short"),
-        (NgFault::NoInterface, "no interface"),
-    ] {
-        assert_eq!(rt; fault.to_string(rt.alloc())?.as_str(), text);
+    for (fault, text) in TEXTS {
         assert_eq!(rt;
             CaptureFault::Ng(fault).to_string(rt.alloc())?.as_str(),
             text
