@@ -21,7 +21,8 @@ use Rattle.journal.specs.Journal.{hop_count, pending, journal_of}
 use Rattle.journal.specs.Fates.{fate_after, fate_of}
 use Rattle.journal.specs.Laws.{coreless, bare, CoresDoNotMatter}
 
-find-bare : (n : ℕ) (ps : List PacketPlan) → find (λ p. p.number == n) (map coreless ps) ≡ option_map coreless (find (λ p. p.number == n) ps)
+find-bare : (n : ℕ) (ps : List PacketPlan)
+    → find (λ p. p.number == n) (map coreless ps) ≡ option_map coreless (find (λ p. p.number == n) ps)
 find-bare n [] = refl
 find-bare n (p ∷ ps) = go (p.number == n) (find-bare n ps)
   where

@@ -32,7 +32,8 @@ length-hops b k (v ∷ J) r all =
     let here = all v (inl refl) in
     let low : k ≤ v.hop = here.0 in
     let high : v.hop < b = here.1 in
-    let rest : length J ≤ b - (v.hop + 1) = length-hops b (v.hop + 1) J r.1 (λ w h. let l : v.hop < w.hop = r.0 w h in (omega arith, (all w (inr h)).1)) in
+    let rest : length J ≤ b - (v.hop + 1) =
+    length-hops b (v.hop + 1) J r.1 (λ w h. let l : v.hop < w.hop = r.0 w h in (omega arith, (all w (inr h)).1)) in
     omega (arith, low, high, rest)
 
 sum_by-add : {X : Type 0} (f g : X → ℕ) (xs : List X) → sum_by (λ x. f x + g x) xs ≡ sum_by f xs + sum_by g xs
@@ -61,11 +62,15 @@ length-by_packet P [] all = omega arith
 length-by_packet P (v ∷ J) all =
     let here = all v (inl refl) in
     let rest : length J ≤ sum_by (λ p. length (of_packet p.number J)) P = length-by_packet P J (λ w h. all w (inr h)) in
-    let one : cond (v.packet == here.0.number) 1 0 ≤ sum_by (λ p. cond (v.packet == p.number) 1 0) P = le-sum_by (λ p. cond (v.packet == p.number) 1 0) here.0 P here.1 in
+    let one : cond (v.packet == here.0.number) 1 0 ≤ sum_by (λ p. cond (v.packet == p.number) 1 0) P =
+    le-sum_by (λ p. cond (v.packet == p.number) 1 0) here.0 P here.1 in
     let one_of : Bool → ℕ = λ b. cond b 1 0 in
     let is_one : one_of (v.packet == here.0.number) ≡ 1 = ap one_of (eq-eqb _ _ (sym here.2)) in
     let split = sum_by-add (λ p. cond (v.packet == p.number) 1 0) (λ p. length (of_packet p.number J)) P in
-    let whole : sum_by (λ p. length (of_packet p.number (v ∷ J))) P ≡ sum_by (λ p. cond (v.packet == p.number) 1 0 + length (of_packet p.number J)) P = same (λ p. length (of_packet p.number (v ∷ J))) (λ p. cond (v.packet == p.number) 1 0 + length (of_packet p.number J)) (λ p. length-of_packet v J p.number) P in
+    let whole : sum_by (λ p. length (of_packet p.number (v ∷ J))) P
+    ≡ sum_by (λ p. cond (v.packet == p.number) 1 0 + length (of_packet p.number J)) P =
+    same (λ p. length (of_packet p.number (v ∷ J))) (λ p. cond (v.packet == p.number) 1 0 + length (of_packet p.number J))
+    (λ p. length-of_packet v J p.number) P in
     omega (arith, rest, one, is_one, split, whole)
   where
     same : (f g : PacketPlan → ℕ) → ((p : PacketPlan) → f p ≡ g p) → (P : List PacketPlan) → sum_by f P ≡ sum_by g P
@@ -78,14 +83,17 @@ module _ (S : SetupView) (is : IsSetup S) (J : List Visit) (g : IsGrowing S J) w
   hop-rises v w a b before p = go (cases_order v.hop w.hop)
     where
       go : (v.hop ≡ w.hop) ⊎ ((v.hop < w.hop) ⊎ (w.hop < v.hop)) → v.hop < w.hop
-      go (inl e) = absurd (before-irreflexive (due_of w) (subst (λ (u : Visit). Before (due_of u) (due_of w)) (one_visit (scheme_of S) (orderly S is) J g v w a b p e) before))
+      go (inl e) =
+          let one : v ≡ w = one_visit (scheme_of S) (orderly S is) J g v w a b p e in
+          absurd (before-irreflexive (due_of w) (subst (λ (u : Visit). Before (due_of u) (due_of w)) one before))
       go (inr (inl l)) = l
       go (inr (inr l)) =
           let later : w.tick < v.tick = apart (scheme_of S) (orderly S is) J g w (due_of v) b (g.sound v a) (sym p) l in
           let order : v.tick ≤ w.tick = before-tick (due_of v) (due_of w) before in
           absurd (omega (arith, later, order))
 
-  hops_rise : (n : ℕ) (rest : List Visit) → Rises (scheme_of S) rest → ((v : Visit) → Among v rest → Among v J) → HopsRise (of_packet n rest)
+  hops_rise : (n : ℕ) (rest : List Visit) → Rises (scheme_of S) rest → ((v : Visit) → Among v rest → Among v J)
+      → HopsRise (of_packet n rest)
   hops_rise n [] r all = tt
   hops_rise n (v ∷ rest) r all = go (v.packet == n) refl (hops_rise n rest r.1 (λ w h. all w (inr h)))
     where
@@ -105,11 +113,13 @@ module _ (S : SetupView) (is : IsSetup S) (J : List Visit) (g : IsGrowing S J) w
       go : Origin S J (due_of v) → v.hop < length (route_of S v.packet)
       go (inl m) =
           let hop : v.hop ≡ 0 = ap (λ (d : Due). d.hop) m.1.is in
-          let within : 0 < length (route_of S v.packet) = subst (λ (n : ℕ). 0 < length (route_of S n)) (sym (ap (λ (d : Due). d.packet) m.1.is)) m.1.within in
+          let within : 0 < length (route_of S v.packet) =
+          subst (λ (n : ℕ). 0 < length (route_of S n)) (sym (ap (λ (d : Due). d.packet) m.1.is)) m.1.within in
           omega (arith, hop, within)
       go (inr m) =
           let hop : v.hop ≡ m.0.hop + 1 = ap (λ (d : Due). d.hop) m.2.is in
-          let within : m.0.hop + 1 < length (route_of S v.packet) = subst (λ (n : ℕ). m.0.hop + 1 < length (route_of S n)) (sym (ap (λ (d : Due). d.packet) m.2.is)) m.2.within in
+          let within : m.0.hop + 1 < length (route_of S v.packet) =
+          subst (λ (n : ℕ). m.0.hop + 1 < length (route_of S n)) (sym (ap (λ (d : Due). d.packet) m.2.is)) m.2.within in
           omega (arith, hop, within)
 
   -- and its packet is one of the setup's
@@ -127,7 +137,8 @@ module _ (S : SetupView) (is : IsSetup S) (J : List Visit) (g : IsGrowing S J) w
               absurd (omega (arith, hop, zero_hop))
 
   length-visits : (n : ℕ) → length (of_packet n J) ≤ length (route_of S n)
-  length-visits n = let l = length-hops (length (route_of S n)) 0 (of_packet n J) (hops_rise n J g.rises (λ v h. h)) bounds in omega (arith, l)
+  length-visits n =
+      let l = length-hops (length (route_of S n)) 0 (of_packet n J) (hops_rise n J g.rises (λ v h. h)) bounds in omega (arith, l)
     where
       bounds : (v : Visit) → Among v (of_packet n J) → (0 ≤ v.hop) × (v.hop < length (route_of S n))
       bounds v h =
@@ -137,5 +148,6 @@ module _ (S : SetupView) (is : IsSetup S) (J : List Visit) (g : IsGrowing S J) w
   pub growing_count : length J ≤ hop_count S
   growing_count =
       let by_packet : length J ≤ sum_by (λ p. length (of_packet p.number J)) S.packets = length-by_packet S.packets J packet-of_visit in
-      let routes : sum_by (λ p. length (of_packet p.number J)) S.packets ≤ hop_count S = sum_by-le-sum_by (λ p. length (of_packet p.number J)) (λ p. length (route_of S p.number)) S.packets (λ p. length-visits p.number) in
+      let routes : sum_by (λ p. length (of_packet p.number J)) S.packets ≤ hop_count S =
+      sum_by-le-sum_by (λ p. length (of_packet p.number J)) (λ p. length (route_of S p.number)) S.packets (λ p. length-visits p.number) in
       omega (arith, by_packet, routes)

@@ -48,10 +48,12 @@ module _ (S : SetupView) (is : IsSetup S) where
   visited x a = Among-from-map due_of x (journal_of S) ((meets S is).complete x a)
 
   -- behind the visit that ends a packet's way no hop is visited
-  none_behind : (v w : Visit) → Among v (journal_of S) → next_hop S v ≡ None → Among w (journal_of S) → w.packet ≡ v.packet → v.hop < w.hop → ⊥
+  none_behind : (v w : Visit) → Among v (journal_of S) → next_hop S v ≡ None → Among w (journal_of S) → w.packet ≡ v.packet → v.hop < w.hop
+      → ⊥
   none_behind v w a last b p l =
       let e = earlier (scheme_of S) (orderly S is) (journal_of S) grows (v.hop + 1) w b (omega arith) in
-      let next : next_hop S v ≡ Some (due_of e.visit) = follows (scheme_of S) (orderly S is) (journal_of S) grows v e.visit a e.among (sym p ∙ sym e.packet) e.at in
+      let next : next_hop S v ≡ Some (due_of e.visit) =
+      follows (scheme_of S) (orderly S is) (journal_of S) grows v e.visit a e.among (sym p ∙ sym e.packet) e.at in
       let clash : None ≡ Some (due_of e.visit) = sym last ∙ next in
       cc
 
@@ -67,13 +69,16 @@ module _ (S : SetupView) (is : IsSetup S) where
       go (inr (inr l)) = absurd (none_behind w v f.among f.last e.among (sym same) l)
 
   -- from each visit on the packet's way comes to an end
-  end_from : (n : ℕ) (p : PacketPlan) (v : Visit) → Among v (journal_of S) → v.packet ≡ p.number → length (route_of S v.packet) ≤ n + v.hop → (w : Visit) × EndsWay S p w
+  end_from : (n : ℕ) (p : PacketPlan) (v : Visit) → Among v (journal_of S) → v.packet ≡ p.number → length (route_of S v.packet) ≤ n + v.hop
+      → (w : Visit) × EndsWay S p w
   end_from zero p v a q fuel =
       let within : v.hop < length (route_of S v.packet) = hop-within S is (journal_of S) grows v a in
       absurd (omega (arith, within, fuel))
   end_from (suc n) p v a q fuel = go (next_hop S v) refl (end_from n p)
     where
-      go : (o : Option Due) → next_hop S v ≡ o → ((u : Visit) → Among u (journal_of S) → u.packet ≡ p.number → length (route_of S u.packet) ≤ n + u.hop → (w : Visit) × EndsWay S p w) → (w : Visit) × EndsWay S p w
+      go : (o : Option Due) → next_hop S v ≡ o
+          → ((u : Visit) → Among u (journal_of S) → u.packet ≡ p.number → length (route_of S u.packet) ≤ n + u.hop → (w : Visit) × EndsWay S p w)
+          → (w : Visit) × EndsWay S p w
       go None e rest = (v, record { among = a; packet = q; last = e })
       go (Some x) e rest =
           let i = next_parts S v x e in
@@ -86,7 +91,8 @@ module _ (S : SetupView) (is : IsSetup S) where
   pub ways_end : WaysEnd S
   ways_end p a within =
       let first : Due = record { tick = p.entry_tick; packet = p.number; hop = 0 } in
-      let v = visited first (due_from-first (scheme_of S) (journal_of S) first (first-due S p first (record { among = a; is = refl; within = within }))) in
+      let v =
+      visited first (due_from-first (scheme_of S) (journal_of S) first (first-due S p first (record { among = a; is = refl; within = within }))) in
       let e = end_from (length (route_of S v.0.packet)) p v.0 v.1 (ap (λ (d : Due). d.packet) v.2) (omega arith) in
       (e.0, e.1, λ w f. one_end p e.0 w e.1 f)
 
@@ -126,7 +132,8 @@ module _ (S : SetupView) (is : IsSetup S) where
         where
           clash : (u.packet == p.number) ≡ true → ⊥
           clash t =
-              let within : u.hop < length (route_of S u.packet) = hop-within S is (journal_of S) grows u (Among-reverse u (journal_of S) h) in
+              let within : u.hop < length (route_of S u.packet) =
+              hop-within S is (journal_of S) grows u (Among-reverse u (journal_of S) h) in
               let long : length (route_of S u.packet) ≡ 0 = ap (λ (n : ℕ). length (route_of S n)) (eqb-true _ _ t) ∙ ap length e in
               omega (arith, within, long)
 

@@ -54,7 +54,8 @@ set-map : {X Y : Type 0} (f g : X → Y) (xs : List X) (i : ℕ) (x : X) (y : Y)
 set-map f g [] i x y at is other = cc
 set-map {X} {Y} f g (a ∷ xs) zero x y at is other =
     let same : a ≡ x = cc in
-    ap₂ (λ (b : Y) (ys : List Y). b ∷ ys) (is ∙ ap g (sym same)) (map-same f g xs (λ j z here. other (suc j) z here (λ e. absurd (omega arith))))
+    ap₂ (λ (b : Y) (ys : List Y). b ∷ ys) (is ∙ ap g (sym same))
+    (map-same f g xs (λ j z here. other (suc j) z here (λ e. absurd (omega arith))))
 set-map {X} {Y} f g (a ∷ xs) (suc i) x y at is other =
     ap₂ (λ (b : Y) (ys : List Y). b ∷ ys) (other 0 a refl (λ e. absurd (omega arith)))
     (set-map f g xs i x y at is (λ j z here ne. other (suc j) z here (λ e. ne (omega arith))))
@@ -89,11 +90,13 @@ fates-push S is J v i p at number =
     (λ j q here ne. fate-other J v q (λ same. apart S is i j p q at here ne (number ∙ same)))
 
 -- before any visit
-pub so_far-nil : {S : SetupView} {pipes : List SetupPipeView} {held : List DueVisit} {made : ℕ} {fates : List Fate} → IsMaking S [] pipes held made
+pub so_far-nil : {S : SetupView} {pipes : List SetupPipeView} {held : List DueVisit} {made : ℕ} {fates : List Fate}
+    → IsMaking S [] pipes held made
     → fates ≡ map (fate_after []) S.packets → AreFatesSoFar S pipes held made fates
 so_far-nil m e = record { visits = []; making = m; fates_are = e }
 
-module _ {S : SetupView} {pipes : List SetupPipeView} {held : List DueVisit} {made : ℕ} {fates : List Fate} (a : AreFatesSoFar S pipes held made fates)
+module _ {S : SetupView} {pipes : List SetupPipeView} {held : List DueVisit} {made : ℕ} {fates : List Fate}
+    (a : AreFatesSoFar S pipes held made fates)
     {next : DueVisit} {rest : List DueVisit} (takes : TakesVisit held next rest) where
   -- the due visit that was taken out is the next of these visits
   pub so_far-to_make : IsToMake S a.visits next pipes rest made
@@ -112,7 +115,8 @@ module _ {S : SetupView} {pipes : List SetupPipeView} {held : List DueVisit} {ma
   so_far-falls more e = omega (arith, e, next-counts a.making.setup so_far-to_make)
 
   -- once it is made and its fate is written
-  pub so_far-next : (v : Visit) (fate : Fate) (after : List SetupPipeView) (new : List DueVisit) (more : ℕ) → v ≡ visit_of S a.visits next.due
+  pub so_far-next : (v : Visit) (fate : Fate) (after : List SetupPipeView) (new : List DueVisit) (more : ℕ)
+      → v ≡ visit_of S a.visits next.due
       → fate ≡ fate_of_visit v → IsMaking S (a.visits ++ visit_of S a.visits next.due ∷ []) after new more
       → AreFatesSoFar S after new more (slice_set fates next.index fate)
   so_far-next v fate after new more is fate_is making =

@@ -95,7 +95,9 @@ module _ (S : SetupView) (is : IsSetup S) (J : List Visit) (g : IsGrowing S J) w
       let own : List Visit = filter (λ (v : Visit). v.pipe == pipe) J in
       let by = length-by_packet S.packets own
       (λ v a. packet-of_visit S is J g v (Among-from-filter (λ (w : Visit). w.pipe == pipe) v J a).0) in
-      let ones = sum_by-le (λ (p : PacketPlan). length (of_packet p.number own)) 1 S.packets (λ k d within. one (slice_index_or S.packets k d).number) in
+      let ones =
+      sum_by-le (λ (p : PacketPlan). length (of_packet p.number own)) 1 S.packets
+      (λ k d within. one (slice_index_or S.packets k d).number) in
       omega (arith, by, ones, length-map own (past_visit S))
     where
       one : (n : ℕ) → length (of_packet n (filter (λ (v : Visit). v.pipe == pipe) J)) ≤ 1
@@ -105,7 +107,8 @@ module _ (S : SetupView) (is : IsSetup S) (J : List Visit) (g : IsGrowing S J) w
           (rises-filter S (λ (v : Visit). v.pipe == pipe) J g.rises))
           same
         where
-          of_both : (u : Visit) → Among u (of_packet n (filter (λ (v : Visit). v.pipe == pipe) J)) → Among u J × (u.pipe ≡ pipe) × (u.packet ≡ n)
+          of_both : (u : Visit) → Among u (of_packet n (filter (λ (v : Visit). v.pipe == pipe) J))
+              → Among u J × (u.pipe ≡ pipe) × (u.packet ≡ n)
           of_both u a =
               let s = Among-from-filter (λ (v : Visit). v.packet == n) u (filter (λ (v : Visit). v.pipe == pipe) J) a in
               let t = Among-from-filter (λ (v : Visit). v.pipe == pipe) u J s.0 in

@@ -102,7 +102,8 @@ entered-below S is n held p w h here first u a =
     is.numbers_rise f.index n p below (slice_get_within S.packets n p here) in
     let low : (slice_index_or S.packets f.index p).number ≡ f.plan.number =
     ap (λ (q : PacketPlan). q.number) (get_or_from_slice_get S.packets f.index f.plan p f.at) in
-    let high : (slice_index_or S.packets n p).number ≡ p.number = ap (λ (q : PacketPlan). q.number) (get_or_from_slice_get S.packets n p p here) in
+    let high : (slice_index_or S.packets n p).number ≡ p.number =
+    ap (λ (q : PacketPlan). q.number) (get_or_from_slice_get S.packets n p p here) in
     let mine : u.due.packet ≡ f.plan.number = entry-packet S f.plan u.due (among-get S.packets f.index f.plan f.at) f.due in
     let yours : w.due.packet ≡ p.number = entry-packet S p w.due (among-get S.packets n p here) (sym first) in
     omega (arith, rises, low, high, mine, yours)
@@ -126,7 +127,8 @@ pushed-among held w other = (
 pub held-same : (S : SetupView) (a b : List DueVisit) → ((w : DueVisit) → Among w b ↔ Among w a) → IsHeld S [] a → IsHeld S [] b
 held-same S a b same h = record {
   indexed = λ w among. h.indexed w ((same w).0 among);
-  pending = λ x. (λ among. (h.pending x).0 (moved x b a (λ w c. (same w).0 c) among), λ among. moved x a b (λ w c. (same w).1 c) ((h.pending x).1 among));
+  pending =
+      λ x. (λ among. (h.pending x).0 (moved x b a (λ w c. (same w).0 c) among), λ among. moved x a b (λ w c. (same w).1 c) ((h.pending x).1 among));
 }
   where
     moved : (x : Due) (xs ys : List DueVisit) → ((w : DueVisit) → Among w xs → Among w ys) → Among x (map plain xs) → Among x (map plain ys)

@@ -211,7 +211,8 @@ early-takes {firsts} {next} {rs} {first} h t =
         (t.ahead w a)
 
 -- the top of the heap that is taken
-pub record TakesLate (firsts : List DueVisit) (next : ℕ) (rs : List (Reverse Entry)) (top : Reverse Entry) (rest : List (Reverse Entry)) : Type 0 where
+pub record TakesLate (firsts : List DueVisit) (next : ℕ) (rs : List (Reverse Entry)) (top : Reverse Entry)
+    (rest : List (Reverse Entry)) : Type 0 where
   pub moved : IsPermutation rs (top ∷ rest)
   pub bound : IsUpperBound top_cmp top rest
   pub ahead : (w : DueVisit) → Among w (drop next firsts) → Before (due_from_entry top.0).due w.due
@@ -325,7 +326,8 @@ added-once firsts next rs more x once none moved n = go (cases_order new.due.pac
 
     go : (new.due.packet ≡ n) ⊎ ((new.due.packet < n) ⊎ (n < new.due.packet)) → many_of n (drop next firsts ++ later_visits more) ≤ 1
     go (inl same) =
-        let zero_before = many-none n (drop next firsts ++ later_visits rs) (subst (λ m. HasNone (drop next firsts ++ later_visits rs) m) same none) in
+        let zero_before =
+        many-none n (drop next firsts ++ later_visits rs) (subst (λ m. HasNone (drop next firsts ++ later_visits rs) m) same none) in
         let here : of_packet n new ≡ 1 = rw (eq-eqb new.due.packet n same) refl in
         omega (
           arith,
@@ -356,7 +358,8 @@ added-among front rs more x moved w = (into, out)
         (Among-append w front (later_visits more) a)
 
     out : (new ≡ w) ⊎ Among w (front ++ later_visits rs) → Among w (front ++ later_visits more)
-    out (inl e) = Among-append-right w front (later_visits more) (among-permuted w (new ∷ later_visits rs) (later_visits more) mapped (inl e))
+    out (inl e) =
+        Among-append-right w front (later_visits more) (among-permuted w (new ∷ later_visits rs) (later_visits more) mapped (inl e))
     out (inr a) = ⊎_elim
         (λ b. Among-append-left w front (later_visits more) b)
         (λ b. Among-append-right w front (later_visits more) (among-permuted w (new ∷ later_visits rs) (later_visits more) mapped (inr b)))

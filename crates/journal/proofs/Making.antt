@@ -33,7 +33,8 @@ use Rattle.journal.proofs.Times.{due_fits}
 use Rattle.journal.proofs.VisitsTo.{visits_to-push_same}
 use Rattle.journal.proofs.FewVisits.{few_packets, few_visits}
 
-pub making-nil : (S : SetupView) → IsSetup S → (held : List DueVisit) (pipes : List SetupPipeView) → IsHeld S [] held → ArePipes S [] pipes → IsMaking S [] pipes held 0
+pub making-nil : (S : SetupView) → IsSetup S → (held : List DueVisit) (pipes : List SetupPipeView) → IsHeld S [] held → ArePipes S [] pipes
+    → IsMaking S [] pipes held 0
 making-nil S is held pipes h are = record { setup = is; growing = growing-nil (scheme_of S); pipes_are = are; held_is = h; count = refl }
 
 -- the packet and the hop of a due visit
@@ -150,7 +151,8 @@ module _ {S : SetupView} (is : IsSetup S) {J : List Visit} {next : DueVisit} {pi
   -- and there is a number for it
   pub next-counts : made + 1 ≤ hop_count S
   next-counts =
-      let count : length (J ++ visit_of S J next.due ∷ []) ≤ hop_count S = growing_count S is (J ++ visit_of S J next.due ∷ []) next-grows in
+      let count : length (J ++ visit_of S J next.due ∷ []) ≤ hop_count S =
+      growing_count S is (J ++ visit_of S J next.due ∷ []) next-grows in
       omega (arith, count, length_push J (visit_of S J next.due), t.making.count)
 
   pub made-fits : made + 1 < 2 ^ 64
@@ -162,7 +164,8 @@ module _ {S : SetupView} (is : IsSetup S) {J : List Visit} {next : DueVisit} {pi
   held-next step new e puts = record {
     indexed = λ w a. ⊎_elim (λ b. t.making.held_is.indexed w ((t.takes.taken w).1 (inr b))) (λ c. indexed w c.0 c.1) (puts.comes w a);
     pending =
-        held-push (scheme_of S) (orderly S is) J g (map plain t.held) next.due (map plain rest) t.making.held_is.pending takes (map plain new)
+        held-push (scheme_of S) (orderly S is) J g (map plain t.held) next.due (map plain rest) t.making.held_is.pending takes
+        (map plain new)
         (subst (λ (s : Step). AddsNext (hop_after S next.due.packet next.due.hop s) (map plain rest) (map plain new)) e (adds-plain puts));
   }
     where
@@ -172,7 +175,8 @@ module _ {S : SetupView} (is : IsSetup S) {J : List Visit} {next : DueVisit} {pi
           let n = next_parts S v w.due f in
           let packet : w.due.packet ≡ next.due.packet = ap (λ (d : Due). d.packet) n.is in
           let hop : w.due.hop ≡ next.due.hop + 1 = ap (λ (d : Due). d.hop) n.is in
-          let long : length (route_of S w.due.packet) ≡ length (route_of S next.due.packet) = ap (λ (k : ℕ). length (route_of S k)) packet in
+          let long : length (route_of S w.due.packet) ≡ length (route_of S next.due.packet) =
+          ap (λ (k : ℕ). length (route_of S k)) packet in
           let within : next.due.hop + 1 < length (route_of S next.due.packet) = n.within in
           record {
             plan = next-indexed.plan;

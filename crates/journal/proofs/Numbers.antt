@@ -14,8 +14,11 @@ pub numbers-order : (S : SetupView) → IsSetup S → IsNonDecreasingBy (λ p. p
 numbers-order S is i j d le within = go (cases_order i j)
   where
     go : (i ≡ j) ⊎ ((i < j) ⊎ (j < i)) → (get_or S.packets i d).number ≤ (get_or S.packets j d).number
-    go (inl e) = let same : (get_or S.packets i d).number ≡ (get_or S.packets j d).number = ap (λ k. (get_or S.packets k d).number) e in omega (arith, same)
-    go (inr (inl l)) = let less : (get_or S.packets i d).number < (get_or S.packets j d).number = is.numbers_rise i j d l within in omega (arith, less)
+    go (inl e) =
+        let same : (get_or S.packets i d).number ≡ (get_or S.packets j d).number =
+        ap (λ k. (get_or S.packets k d).number) e in omega (arith, same)
+    go (inr (inl l)) =
+        let less : (get_or S.packets i d).number < (get_or S.packets j d).number = is.numbers_rise i j d l within in omega (arith, less)
     go (inr (inr l)) = absurd (omega arith)
 
 -- a packet of this number is the one
@@ -26,7 +29,8 @@ found S is p n a e =
     ap Some (one_packet S is p f.0 a y.0 (e ∙ sym (eqb-true _ _ y.1))) ∙ sym f.1
 
 -- and there is none, where the first whose number isn't below has another number
-pub absent : (S : SetupView) → IsSetup S → (n i : ℕ) → IsPartitionPoint (λ (p : PacketPlan). ltb p.number n ≡ true) (λ (p : PacketPlan). ltb p.number n ≡ false) S.packets i
+pub absent : (S : SetupView) → IsSetup S → (n i : ℕ)
+    → IsPartitionPoint (λ (p : PacketPlan). ltb p.number n ≡ true) (λ (p : PacketPlan). ltb p.number n ≡ false) S.packets i
     → ((d : PacketPlan) → i < length S.packets → (get_or S.packets i d).number ≡ n → ⊥) → None ≡ packet_of S n
 absent S is n i parts other = sym (find-none (λ (p : PacketPlan). p.number == n) S.packets none)
   where
@@ -37,7 +41,9 @@ absent S is n i parts other = sym (find-none (λ (p : PacketPlan). p.number == n
         s = place_of p S.packets a
 
         clash : p.number ≡ n → (s.place ≡ i) ⊎ ((s.place < i) ⊎ (i < s.place)) → ⊥
-        clash e (inl same) = other p (subst (λ (k : ℕ). k < length S.packets) same s.within) (ap (λ k. (get_or S.packets k p).number) (sym same) ∙ ap (λ (q : PacketPlan). q.number) (s.here p) ∙ e)
+        clash e (inl same) =
+            other p (subst (λ (k : ℕ). k < length S.packets) same s.within)
+            (ap (λ k. (get_or S.packets k p).number) (sym same) ∙ ap (λ (q : PacketPlan). q.number) (s.here p) ∙ e)
         clash e (inr (inl below)) =
             let less : (get_or S.packets s.place p).number < n = ltb-true _ _ (parts.0 s.place p (omega arith) below) in
             let here : (get_or S.packets s.place p).number ≡ n = ap (λ (q : PacketPlan). q.number) (s.here p) ∙ e in
@@ -50,7 +56,8 @@ absent S is n i parts other = sym (find-none (λ (p : PacketPlan). p.number == n
             omega (arith, most, less, here)
 
 -- the same for a list that is the setup's packets, at a place of it
-pub found_at : (S : SetupView) → IsSetup S → (xs : List PacketPlan) (i n : ℕ) (d : PacketPlan) → xs ≡ S.packets → i < length xs → (get_or xs i d).number ≡ n → Some (get_or xs i d) ≡ packet_of S n
+pub found_at : (S : SetupView) → IsSetup S → (xs : List PacketPlan) (i n : ℕ) (d : PacketPlan) → xs ≡ S.packets → i < length xs
+    → (get_or xs i d).number ≡ n → Some (get_or xs i d) ≡ packet_of S n
 found_at S is xs i n d same within e =
     found S is (get_or xs i d) n (subst (Among (get_or xs i d)) same (Among-place xs i d within)) e
 
@@ -58,7 +65,8 @@ pub absent_at : (S : SetupView) → IsSetup S → (xs : List PacketPlan) (i n : 
     → IsPartitionPoint (λ (p : PacketPlan). ltb p.number n ≡ true) (λ (p : PacketPlan). ltb p.number n ≡ false) xs i
     → (i < length xs → (get_or xs i d).number ≡ n → ⊥) → None ≡ packet_of S n
 absent_at S is xs i n d same parts other =
-    let At : List PacketPlan → Type 0 = λ ys. IsPartitionPoint (λ (p : PacketPlan). ltb p.number n ≡ true) (λ (p : PacketPlan). ltb p.number n ≡ false) ys i
+    let At : List PacketPlan → Type 0 =
+    λ ys. IsPartitionPoint (λ (p : PacketPlan). ltb p.number n ≡ true) (λ (p : PacketPlan). ltb p.number n ≡ false) ys i
     × (i < length ys → (get_or ys i d).number ≡ n → ⊥) in
     let moved : At S.packets = subst At same (parts, other) in
     absent S is n i moved.0 (λ e within number. moved.1 within (ap (λ (p : PacketPlan). p.number) (get_or_default S.packets i d e within) ∙ number))

@@ -43,7 +43,8 @@ first-due S p x i = Among-filter_map (entry S) p x S.packets i.among (entry-is S
 
 module _ (S : SetupView) (is : IsSetup S) where
   -- no packet is due at two ticks at first
-  one_first : (x y : Due) → Among x (filter_map (entry S) S.packets) → Among y (filter_map (entry S) S.packets) → x.packet ≡ y.packet → x ≡ y
+  one_first : (x y : Due) → Among x (filter_map (entry S) S.packets) → Among y (filter_map (entry S) S.packets) → x.packet ≡ y.packet
+      → x ≡ y
   one_first x y a b p =
       let m = first_parts S x a in
       let n = first_parts S y b in
@@ -79,7 +80,8 @@ pub visit-pipe : (S : SetupView) (J : List Visit) (v : Visit) → AreMade (schem
 visit-pipe S J v made h = let s = split_at v J h in ap (λ (u : Visit). u.pipe) (made s.front s.rest v s.is)
 
 -- the visit that follows v on its packet's way is later, by at least the latency of v's pipe
-pub next-latency : (S : SetupView) (J : List Visit) (v : Visit) (x : Due) → 0 < S.tick_ns → AreMade (scheme_of S) J → Among v J → IsNext S v x
+pub next-latency : (S : SetupView) (J : List Visit) (v : Visit) (x : Due) → 0 < S.tick_ns → AreMade (scheme_of S) J → Among v J
+    → IsNext S v x
     → v.tick + (params_of S v.pipe v.tick).latency_ticks ≤ x.tick
 next-latency S J v x pos made a i =
     let s = split_at v J a in

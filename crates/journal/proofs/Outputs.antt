@@ -47,10 +47,13 @@ module _ (S : SetupView) (is : IsSetup S) where
   in_time : (v : Visit) (exit : ℕ) → Among v (journal_of S) → v.step ≡ Pass exit → IsInTime exit
   in_time v exit a passed =
       let w = on_way S is (journal_of S) grows (due_of v) (grows.sound v a) in
-      let stay : exit * S.tick_ns ≤ v.tick * S.tick_ns + longest_stay S (pipe_of S (due_of v)) = exit-stay S is (journal_of S) grows v exit a passed in
+      let stay : exit * S.tick_ns ≤ v.tick * S.tick_ns + longest_stay S (pipe_of S (due_of v)) =
+      exit-stay S is (journal_of S) grows v exit a passed in
       let part = longest_way-drop S (route_of S v.packet) v.hop w.within in
-      let bound : v.tick * S.tick_ns + longest_way S (drop v.hop (route_of S v.packet)) ≤ w.plan.entry_tick * S.tick_ns + longest_way S (route_of S v.packet) = w.bound in
-      let short : longest_way S (route_of S v.packet) < ROUTE_DELAY_NS_END = subst (λ (n : ℕ). longest_way S (route_of S n) < ROUTE_DELAY_NS_END) w.number (way-short w.plan w.among) in
+      let bound : v.tick * S.tick_ns + longest_way S (drop v.hop (route_of S v.packet))
+      ≤ w.plan.entry_tick * S.tick_ns + longest_way S (route_of S v.packet) = w.bound in
+      let short : longest_way S (route_of S v.packet) < ROUTE_DELAY_NS_END =
+      subst (λ (n : ℕ). longest_way S (route_of S n) < ROUTE_DELAY_NS_END) w.number (way-short w.plan w.among) in
       record { plan = w.plan; among = w.among; bound = omega (arith, stay, part, bound, short) }
 
   pub times_fit : TimesFit S
@@ -63,7 +66,9 @@ module _ (S : SetupView) (is : IsSetup S) where
       exits v exit a passed =
           let t = in_time v exit a passed in
           let late : exit * S.tick_ns < t.plan.entry_tick * S.tick_ns + ROUTE_DELAY_NS_END = t.bound in
-          let entered : t.plan.entry_tick * S.tick_ns < TIME_NS_END - ROUTE_DELAY_NS_END = All-Among (λ (q : PacketPlan). q.entry_tick * S.tick_ns < TIME_NS_END - ROUTE_DELAY_NS_END) t.plan S.packets is.entries_fit t.among in
+          let entered : t.plan.entry_tick * S.tick_ns < TIME_NS_END - ROUTE_DELAY_NS_END =
+          All-Among (λ (q : PacketPlan). q.entry_tick * S.tick_ns < TIME_NS_END - ROUTE_DELAY_NS_END) t.plan S.packets is.entries_fit
+          t.among in
           omega (arith, late, entered)
 
   pub outputs_fit : OutputsFit S
@@ -82,7 +87,8 @@ module _ (S : SetupView) (is : IsSetup S) where
       go (q ∷ route) e =
           let long : length (route_of S p.number) ≡ length (q ∷ route) = ap length e in
           let v = ways_end S is p a (omega (arith, long)) in
-          let passed : v.0.step ≡ Pass tick = left-passed v.0.pipe v.0.tick tick v.0.step (sym ((fates_hold S is).by_end p v.0 v.1) ∙ left) in
+          let passed : v.0.step ≡ Pass tick =
+          left-passed v.0.pipe v.0.tick tick v.0.step (sym ((fates_hold S is).by_end p v.0 v.1) ∙ left) in
           let t = in_time v.0 tick v.1.among passed in
           let late : tick * S.tick_ns < t.plan.entry_tick * S.tick_ns + ROUTE_DELAY_NS_END = t.bound in
           let early : S.base_ns + t.plan.entry_tick * S.tick_ns < OUTPUT_NS_END = entered t.plan t.among in

@@ -26,10 +26,12 @@ pub record HasRoute (S : SetupView) (p : PacketPlan) (route : List ℕ) : Type 0
   pub short : length route ≤ ROUTE_PIPES_MAX
   pub named : All (λ pipe. pipe < length S.pipes) route
 
-pub packet-route : (S : SetupView) → IsSetup S → (p : PacketPlan) → packet_of S p.number ≡ Some p → HasRoute S p (slice_index_or S.routes p.route [])
+pub packet-route : (S : SetupView) → IsSetup S → (p : PacketPlan) → packet_of S p.number ≡ Some p
+    → HasRoute S p (slice_index_or S.routes p.route [])
 packet-route S is p known =
     let member = Among-find (λ (q : PacketPlan). q.number == p.number) p S.packets known in
-    let within : p.route < length S.routes = All-Among (λ (q : PacketPlan). q.route < length S.routes) p S.packets is.packet_routes member.0 in
+    let within : p.route < length S.routes =
+    All-Among (λ (q : PacketPlan). q.route < length S.routes) p S.packets is.packet_routes member.0 in
     record {
       is = sym (ap (λ (o : Option PacketPlan). option_map_or (λ q. slice_index_or S.routes q.route []) o []) known);
       within = within;
@@ -43,7 +45,8 @@ packet-short S is p known =
     All-Among (λ (q : PacketPlan). q.len ≤ PACKET_BYTES_MAX) p S.packets is.lens_most member.0
 
 -- the same, read out of a list whose elements hold the routes
-pub route-read : {X : Type 0} (items : X → List ℕ) (xs : List X) (S : SetupView) → IsSetup S → (p : PacketPlan) → packet_of S p.number ≡ Some p
+pub route-read : {X : Type 0} (items : X → List ℕ) (xs : List X) (S : SetupView) → IsSetup S → (p : PacketPlan)
+    → packet_of S p.number ≡ Some p
     → map items xs ≡ S.routes → (x : X) → x ≡ slice_index_or xs p.route x → (route : List ℕ) → route ≡ items x → HasRoute S p route
 route-read items xs S is p known same x read route value =
     let has = packet-route S is p known in

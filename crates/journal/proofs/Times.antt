@@ -36,7 +36,8 @@ len_of-short S is number = go (packet_of S number) refl
     go : (o : Option PacketPlan) → packet_of S number ≡ o → option_map_or (λ p. p.len) o 0 ≤ PACKET_BYTES_MAX
     go None found = omega arith
     go (Some p) found =
-        All-Among (λ (q : PacketPlan). q.len ≤ PACKET_BYTES_MAX) p S.packets is.lens_most (Among-find (λ (q : PacketPlan). q.number == number) p S.packets found).0
+        All-Among (λ (q : PacketPlan). q.len ≤ PACKET_BYTES_MAX) p S.packets is.lens_most
+        (Among-find (λ (q : PacketPlan). q.number == number) p S.packets found).0
 
 -- the pipe at a hop keeps the packet for its part of the rest of the way
 pub longest_way-drop : (S : SetupView) (route : List ℕ) (hop : ℕ) → hop < length route
@@ -69,7 +70,8 @@ step-stay S pipe x h exit positive usual short passes =
 
 module _ (S : SetupView) (is : IsSetup S) (J : List Visit) (g : IsGrowing S J) where
   -- a packet that passes leaves no later than the pipe may keep it
-  pub exit-stay : (v : Visit) (exit : ℕ) → Among v J → v.step ≡ Pass exit → exit * S.tick_ns ≤ v.tick * S.tick_ns + longest_stay S (pipe_of S (due_of v))
+  pub exit-stay : (v : Visit) (exit : ℕ) → Among v J → v.step ≡ Pass exit
+      → exit * S.tick_ns ≤ v.tick * S.tick_ns + longest_stay S (pipe_of S (due_of v))
   exit-stay v exit among passed =
       step-stay S pipe (due_of v) (visits_to S pipe s.front) exit (tick-pos S is) usual (len_of-short S is v.packet) (sym step ∙ passed)
     where
@@ -82,19 +84,24 @@ module _ (S : SetupView) (is : IsSetup S) (J : List Visit) (g : IsGrowing S J) w
       step : v.step ≡ step_of S pipe (due_of v) (visits_to S pipe s.front)
       step = ap (λ (u : Visit). u.step) (g.made s.front s.rest v s.is)
 
-      usual : (a : PastVisit) → Among a (visits_to S pipe s.front) → IsUsual (params_of S pipe) S.tick_ns (v.tick * S.tick_ns) (greatest_of longest_transmission S pipe) a
+      usual : (a : PastVisit) → Among a (visits_to S pipe s.front)
+          → IsUsual (params_of S pipe) S.tick_ns (v.tick * S.tick_ns) (greatest_of longest_transmission S pipe) a
       usual a m =
           let u = Among-from-map (past_visit S) a (filter (λ (w : Visit). w.pipe == pipe) s.front) m in
           let early = (Among-from-filter (λ (w : Visit). w.pipe == pipe) u.0 s.front u.1).0 in
-          let before = before-tick (due_of u.0) (due_of v) (rises-across (scheme_of S) s.front (v ∷ s.rest) u.0 v (subst (Rises (scheme_of S)) s.is g.rises) early (inl refl)) in
-          let one : IsUsual (params_of S pipe) S.tick_ns (v.tick * S.tick_ns) (greatest_of longest_transmission S pipe) (past_visit S u.0) = record {
+          let before =
+          before-tick (due_of u.0) (due_of v)
+          (rises-across (scheme_of S) s.front (v ∷ s.rest) u.0 v (subst (Rises (scheme_of S)) s.is g.rises) early (inl refl)) in
+          let one : IsUsual (params_of S pipe) S.tick_ns (v.tick * S.tick_ns) (greatest_of longest_transmission S pipe) (past_visit S u.0) =
+          record {
             by = mul-le-mul_right S.tick_ns before;
             short = transmission-below S pipe u.0.tick (len_of S u.0.packet) (len_of-short S is u.0.packet);
           } in
           subst (IsUsual (params_of S pipe) S.tick_ns (v.tick * S.tick_ns) (greatest_of longest_transmission S pipe)) u.2 one
 
   -- and so does the visit that follows on its way
-  pub next-stay : (v : Visit) (x : Due) → Among v J → IsNext S v x → x.tick * S.tick_ns ≤ v.tick * S.tick_ns + longest_stay S (pipe_of S (due_of v))
+  pub next-stay : (v : Visit) (x : Due) → Among v J → IsNext S v x
+      → x.tick * S.tick_ns ≤ v.tick * S.tick_ns + longest_stay S (pipe_of S (due_of v))
   next-stay v x a n =
       let stay : n.exit * S.tick_ns ≤ v.tick * S.tick_ns + longest_stay S (pipe_of S (due_of v)) = exit-stay v n.exit a n.passed in
       let tick : x.tick * S.tick_ns ≡ n.exit * S.tick_ns = ap (λ (d : Due). d.tick * S.tick_ns) n.is in
@@ -106,13 +113,16 @@ module _ (S : SetupView) (is : IsSetup S) (J : List Visit) (g : IsGrowing S J) w
     pub among : Among plan S.packets
     pub number : plan.number ≡ x.packet
     pub within : x.hop < length (route_of S x.packet)
-    pub bound : x.tick * S.tick_ns + longest_way S (drop x.hop (route_of S x.packet)) ≤ plan.entry_tick * S.tick_ns + longest_way S (route_of S x.packet)
+    pub bound :
+        x.tick * S.tick_ns + longest_way S (drop x.hop (route_of S x.packet))
+        ≤ plan.entry_tick * S.tick_ns + longest_way S (route_of S x.packet)
 
   on_way-by_hop : (h : ℕ) (x : Due) → Among x (dues S J) → x.hop ≡ h → IsOnWay x
   on_way-by_hop zero x a e = go (origin S J x a)
     where
       go : Origin S J x → IsOnWay x
-      go (inl m) = subst IsOnWay (sym m.1.is) (record { plan = m.0; among = m.1.among; number = refl; within = m.1.within; bound = omega arith })
+      go (inl m) =
+          subst IsOnWay (sym m.1.is) (record { plan = m.0; among = m.1.among; number = refl; within = m.1.within; bound = omega arith })
       go (inr m) = let i : x.hop ≡ m.0.hop + 1 = ap (λ (d : Due). d.hop) m.2.is in absurd (omega arith)
   on_way-by_hop (suc h) x a e = go (origin S J x a) (on_way-by_hop h)
     where
@@ -124,7 +134,8 @@ module _ (S : SetupView) (is : IsSetup S) (J : List Visit) (g : IsGrowing S J) w
           let before = rest (due_of m.0) (g.sound m.0 m.1) (omega arith) in
           let stay : x.tick * S.tick_ns ≤ m.0.tick * S.tick_ns + longest_stay S (pipe_of S (due_of m.0)) = next-stay m.0 x m.1 n in
           let part = longest_way-drop S (route_of S m.0.packet) m.0.hop before.within in
-          let was : m.0.tick * S.tick_ns + longest_way S (drop m.0.hop (route_of S m.0.packet)) ≤ before.plan.entry_tick * S.tick_ns + longest_way S (route_of S m.0.packet) = before.bound in
+          let was : m.0.tick * S.tick_ns + longest_way S (drop m.0.hop (route_of S m.0.packet))
+          ≤ before.plan.entry_tick * S.tick_ns + longest_way S (route_of S m.0.packet) = before.bound in
           let tick : x.tick ≡ n.exit = ap (λ (d : Due). d.tick) n.is in
           let late : n.exit * S.tick_ns ≡ x.tick * S.tick_ns = ap (λ t. t * S.tick_ns) (sym tick) in
           subst IsOnWay (sym n.is) (record {
@@ -143,9 +154,12 @@ module _ (S : SetupView) (is : IsSetup S) (J : List Visit) (g : IsGrowing S J) w
   due_fits x a =
       let w = on_way x a in
       let p : PacketPlan = w.plan in
-      let entered : p.entry_tick * S.tick_ns < TIME_NS_END - ROUTE_DELAY_NS_END = All-Among (λ (q : PacketPlan). q.entry_tick * S.tick_ns < TIME_NS_END - ROUTE_DELAY_NS_END) p S.packets is.entries_fit w.among in
+      let entered : p.entry_tick * S.tick_ns < TIME_NS_END - ROUTE_DELAY_NS_END =
+      All-Among (λ (q : PacketPlan). q.entry_tick * S.tick_ns < TIME_NS_END - ROUTE_DELAY_NS_END) p S.packets is.entries_fit w.among in
       let r = packet-route S is p (packet-known S is p w.among) in
       let kept : longest_way S (slice_index_or S.routes p.route []) < ROUTE_DELAY_NS_END = is.delays_fit p.route [] r.within in
-      let route : longest_way S (slice_index_or S.routes p.route []) ≡ longest_way S (route_of S x.packet) = ap (longest_way S) (r.is ∙ ap (route_of S) w.number) in
-      let bound : x.tick * S.tick_ns + longest_way S (drop x.hop (route_of S x.packet)) ≤ p.entry_tick * S.tick_ns + longest_way S (route_of S x.packet) = w.bound in
+      let route : longest_way S (slice_index_or S.routes p.route []) ≡ longest_way S (route_of S x.packet) =
+      ap (longest_way S) (r.is ∙ ap (route_of S) w.number) in
+      let bound : x.tick * S.tick_ns + longest_way S (drop x.hop (route_of S x.packet))
+      ≤ p.entry_tick * S.tick_ns + longest_way S (route_of S x.packet) = w.bound in
       omega (arith, entered, kept, route, bound)

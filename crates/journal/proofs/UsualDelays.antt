@@ -106,12 +106,14 @@ module _ (S : SetupView) (least : TICK_NS_MIN ≤ S.tick_ns) (most : S.tick_ns �
       → (pipe : ℕ) → longest_stay S pipe ≤ 2140000000000000
   stay-most usual changed pipe =
       let latency : greatest_of (λ p. p.latency_ticks) S pipe * S.tick_ns ≤ 40950020000000 =
-      greatest-times S.tick_ns 40950020000000 (first_params S pipe) (changes_of S pipe) (first-most S.pipes usual pipe) (changes-most pipe S.changes changed) in
+      greatest-times S.tick_ns 40950020000000 (first_params S pipe) (changes_of S pipe) (first-most S.pipes usual pipe)
+      (changes-most pipe S.changes changed) in
       let places : greatest_of (λ p. p.queue) S pipe ≤ QUEUE_MAX =
       greatest-most (λ p. p.queue) QUEUE_MAX (λ p. p.places.1) (first_params S pipe) (changes_of S pipe) in
       let longest : greatest_of longest_transmission S pipe ≤ TX_NS_MAX =
       greatest-most longest_transmission TX_NS_MAX (λ p. transmission-most p.bps p.bandwidth.0) (first_params S pipe) (changes_of S pipe) in
-      let queue : greatest_of (λ p. p.queue) S pipe * greatest_of longest_transmission S pipe ≤ QUEUE_MAX * TX_NS_MAX = mul-le-mul places longest in
+      let queue : greatest_of (λ p. p.queue) S pipe * greatest_of longest_transmission S pipe ≤ QUEUE_MAX * TX_NS_MAX =
+      mul-le-mul places longest in
       omega (arith, latency, queue)
 
 pub usual_delays_fit : UsualDelaysFit

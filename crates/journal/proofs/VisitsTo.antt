@@ -26,7 +26,8 @@ visits_to-push_same S pipe J v same =
     kept : filter (λ (u : Visit). u.pipe == pipe) (v ∷ []) ≡ v ∷ []
     kept = rw (eq-eqb v.pipe pipe same)
 
-pub visits_to-push_other : (S : SetupView) (pipe : ℕ) (J : List Visit) (v : Visit) → v.pipe ≢ pipe → visits_to S pipe (J ++ v ∷ []) ≡ visits_to S pipe J
+pub visits_to-push_other : (S : SetupView) (pipe : ℕ) (J : List Visit) (v : Visit) → v.pipe ≢ pipe
+    → visits_to S pipe (J ++ v ∷ []) ≡ visits_to S pipe J
 visits_to-push_other S pipe J v other =
     ap (map (past_visit S))
     (filter-append (λ (u : Visit). u.pipe == pipe) J (v ∷ [])
@@ -41,7 +42,8 @@ pub pipe-at : {S : SetupView} {J : List Visit} {pipes : List SetupPipeView} → 
     → pipe < length S.pipes → m ≡ slice_index_or pipes pipe m → IsPipe S J pipe m
 pipe-at {S} {J} are pipe m named is = subst (IsPipe S J pipe) (sym is) (are.each pipe m (omega (arith, are.count)))
 
-last_tick-bound : (bound last : ℕ) (h : List PastVisit) → last ≤ bound → ((a : PastVisit) → Among a h → a.tick ≤ bound) → last_tick last h ≤ bound
+last_tick-bound : (bound last : ℕ) (h : List PastVisit) → last ≤ bound → ((a : PastVisit) → Among a h → a.tick ≤ bound)
+    → last_tick last h ≤ bound
 last_tick-bound bound last [] low all = low
 last_tick-bound bound last (a ∷ h) low all = last_tick-bound bound a.tick h (all a (inl refl)) (λ b m. all b (inr m))
 
@@ -93,7 +95,8 @@ module _ {S : SetupView} {x : Due} {pipe : ℕ} {old new : SetupPipeView} {step 
   }
 
 -- and all pipes
-pub pipes-push : {S : SetupView} {J : List Visit} {pipes : List SetupPipeView} → ArePipes S J pipes → (pipe : ℕ) (new : SetupPipeView) (v : Visit)
+pub pipes-push : {S : SetupView} {J : List Visit} {pipes : List SetupPipeView} → ArePipes S J pipes
+    → (pipe : ℕ) (new : SetupPipeView) (v : Visit)
     → pipe < length pipes → v.pipe ≡ pipe → IsPipe S (J ++ v ∷ []) pipe new → ArePipes S (J ++ v ∷ []) (slice_set pipes pipe new)
 pipes-push {S} {J} {pipes} are pipe new v within same is = record {
   count = length-set pipes pipe new ∙ are.count;
@@ -113,7 +116,8 @@ pipes-push {S} {J} {pipes} are pipe new v within same is = record {
           number = old.number;
           of_setup = old.of_setup;
           stands =
-              subst (StandsFor (slice_index_or pipes q d).memory) (sym (visits_to-push_other S q J v (λ e. there (sym e ∙ same)))) old.stands;
+              subst (StandsFor (slice_index_or pipes q d).memory)
+              (sym (visits_to-push_other S q J v (λ e. there (sym e ∙ same)))) old.stands;
         })
 
 -- one pipe more, before any visit

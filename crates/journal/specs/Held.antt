@@ -70,7 +70,8 @@ pub record IsMaking (S : SetupView) (J : List Visit) (pipes : List SetupPipeView
   pub count : made ≡ length J
 
 -- the same, but that the next visit was taken out
-pub record IsToMake (S : SetupView) (J : List Visit) (next : DueVisit) (pipes : List SetupPipeView) (rest : List DueVisit) (made : ℕ) : Type 0 where
+pub record IsToMake (S : SetupView) (J : List Visit) (next : DueVisit) (pipes : List SetupPipeView) (rest : List DueVisit)
+    (made : ℕ) : Type 0 where
   pub held : List DueVisit
   pub making : IsMaking S J pipes held made
   pub takes : TakesVisit held next rest

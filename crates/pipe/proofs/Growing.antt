@@ -118,7 +118,8 @@ module _ {V : Type 0} (s : Scheme V) (o : IsOrderly s) (J : List V) (g : IsGrowi
   one_due x y a b p e = one_due-by_hop y.hop x y a b p e refl
 
   -- no packet visits a hop twice
-  pub one_visit : (u v : V) → Among u J → Among v J → (s.due_of u).packet ≡ (s.due_of v).packet → (s.due_of u).hop ≡ (s.due_of v).hop → u ≡ v
+  pub one_visit : (u v : V) → Among u J → Among v J → (s.due_of u).packet ≡ (s.due_of v).packet → (s.due_of u).hop ≡ (s.due_of v).hop
+      → u ≡ v
   one_visit u v h k p e = rises-same s J u v g.rises h k (one_due (s.due_of u) (s.due_of v) (g.sound u h) (g.sound v k) p e)
 
   earlier-by_hop : (h k : ℕ) (v : V) → Among v J → (s.due_of v).hop ≡ h → k ≤ h → IsEarlierBy s J v k
@@ -279,5 +280,6 @@ module _ {V : Type 0} (s : Scheme V) (o : IsOrderly s) (J : List V) (g : IsGrowi
                       omega (arith, t, u)
 
                   place : (Among v J) ⊎ (new ≡ v) → Before (s.due_of v) y
-                  place (inl h) = let t : (s.due_of v).tick ≤ x.tick = before-tick (s.due_of v) x (behind v h) in inl (omega (arith, t, later))
+                  place (inl h) =
+                      let t : (s.due_of v).tick ≤ x.tick = before-tick (s.due_of v) x (behind v h) in inl (omega (arith, t, later))
                   place (inr f) = subst (λ (z : Due). Before z y) (sym is_x ∙ ap s.due_of f) (inl later)

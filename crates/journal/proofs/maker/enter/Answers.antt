@@ -7,7 +7,8 @@ pub returns-in_ok-push-clause-entered : goal.returns-in_ok-push-clause-entered
 returns-in_ok-push-clause-entered c =
     let p = at-within c.args.setup.now.packets c.args.index c.requires.within in
     subst (λ ws. HaveEntered c.args.setup.now (c.args.index + 1) ws) (sym c.in_ok-push.ensures.items)
-    (entered-some c.args.setup.now c.args.index c.args.firsts.now.items (c.args.firsts.now.items ++ c.in-Some.first ∷ []) p.0 c.in-Some.first c.requires.entered p.1
+    (entered-some c.args.setup.now c.args.index c.args.firsts.now.items (c.args.firsts.now.items ++ c.in-Some.first ∷ []) p.0
+    c.in-Some.first c.requires.entered p.1
     (c.in-Some.ensures.due p.0 p.1) c.in-Some.ensures.indexed (pushed-among c.args.firsts.now.items c.in-Some.first))
 
 pub returns-in_ok-push-clause-rising : goal.returns-in_ok-push-clause-rising

@@ -7,7 +7,8 @@ use Rattle.journal.proofs.Making.{making-whole, making-few}
 use Rattle.journal.proofs.maker.journal.Goals as goal
 
 pub make-requires : goal.make-requires
-make-requires c = (c.loop-next.visits.items, record { held = c.loop-next.maker.due; making = c.loop-next.invariant; takes = c.in-Some.ensures.first })
+make-requires c =
+    (c.loop-next.visits.items, record { held = c.loop-next.maker.due; making = c.loop-next.invariant; takes = c.in-Some.ensures.first })
 
 to_make : (c : goal.In_ok-push)
     → IsToMake c.args.setup.now c.loop-next.visits.items c.in-Some.next c.loop-next.maker.pipes.items c.pop.new.self c.loop-next.maker.made

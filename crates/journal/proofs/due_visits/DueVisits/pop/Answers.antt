@@ -8,7 +8,9 @@ held c = record { rising = c.self.invariant.rising; once = c.self.invariant.once
 early : (c : goal.After-self-1) → TakesEarly c.self.inside.firsts.items c.self.inside.next c.self.inside.laters.data.items c.in-Some.first
 early c =
     let taken = early-parts c.copied-first.result c.copied-later.result c.in-Some.first c.in-Some.ensures in
-    let read = read-first c.self.inside.firsts.items c.self.inside.next c.get.result c.copied-first.result c.in-Some.first c.copied-first.ensures taken.0
+    let read =
+    read-first c.self.inside.firsts.items c.self.inside.next c.get.result c.copied-first.result c.in-Some.first c.copied-first.ensures
+    taken.0
     (c.get.ensures.lookup.0 ∙ ap (λ xs. nat_lt c.self.inside.next (length xs)) c.deref.ensures.value)
     (rw (← c.deref.ensures.value) c.get.ensures.lookup.1) in
     record {
@@ -16,7 +18,8 @@ early c =
       first_is = read.1;
       ahead = early-ahead c.in-Some.first c.self.inside.laters.data.items c.copied-later.result
           (read-no_top c.self.inside.laters.data.items c.peek.result c.copied-later.result c.copied-later.ensures c.peek.ensures.item.2)
-          (λ top. read-top c.self.inside.laters.data.items c.peek.result c.copied-later.result top c.copied-later.ensures c.self.invariant.heap c.peek.ensures.greatest)
+          (λ top. read-top c.self.inside.laters.data.items c.peek.result c.copied-later.result top c.copied-later.ensures
+          c.self.invariant.heap c.peek.ensures.greatest)
           taken.1;
     }
 
@@ -31,12 +34,14 @@ invariant_of-self c = record {
 pub returns-in-Some-clause-first : goal.returns-in-Some-clause-first
 returns-in-Some-clause-first c = rw (← c.self.view_is) (early-takes (held c) (early c))
 
-late : (c : goal.After-visit_of_entry) → TakesLate c.self.inside.firsts.items c.self.inside.next c.self.inside.laters.data.items c.in_ok-entry.field-0 c.pop.new.self.data.items
+late : (c : goal.After-visit_of_entry)
+    → TakesLate c.self.inside.firsts.items c.self.inside.next c.self.inside.laters.data.items c.in_ok-entry.field-0 c.pop.new.self.data.items
 late c = record {
   moved = c.in_ok-entry.ensures.permutation;
   bound = c.in_ok-entry.ensures.below_top c.self.invariant.heap;
   ahead =
-      late-ahead c.self.inside.firsts.items c.self.inside.next c.get.result c.copied-first.result c.copied-later.result c.in_ok-entry.field-0 c.self.invariant.rising
+      late-ahead c.self.inside.firsts.items c.self.inside.next c.get.result c.copied-first.result c.copied-later.result
+      c.in_ok-entry.field-0 c.self.invariant.rising
       c.copied-first.ensures
       (c.get.ensures.lookup.0 ∙ ap (λ xs. nat_lt c.self.inside.next (length xs)) c.deref.ensures.value)
       (rw (← c.deref.ensures.value) c.get.ensures.lookup.1)
@@ -55,4 +60,5 @@ invariant_of-self-2 c = record {
 
 pub returns-clause-first : goal.returns-clause-first
 returns-clause-first c =
-    rw (← c.self.view_is, c.visit_of_entry.ensures) (late-takes (record { rising = c.self.invariant.rising; once = c.self.invariant.once }) (late c))
+    rw (← c.self.view_is, c.visit_of_entry.ensures)
+    (late-takes (record { rising = c.self.invariant.rising; once = c.self.invariant.once }) (late c))

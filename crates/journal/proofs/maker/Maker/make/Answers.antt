@@ -22,7 +22,9 @@ pipe_at-number-requires-clause-within c =
 in_hand : (c : goal.After-decide-arg-1) (J : List Visit)
     → IsToMake c.args.setup.now J c.args.next c.args.self.now.pipes.items c.args.self.now.due c.args.self.now.made
     → IsPipe c.args.setup.now J c.pipe_at-number.result c.index_mut-pipe.result.now
-in_hand c J t = pipe-at t.making.pipes_are c.pipe_at-number.result c.index_mut-pipe.result.now c.pipe_at-number.ensures.named c.index_mut-pipe.ensures.value
+in_hand c J t =
+    pipe-at t.making.pipes_are c.pipe_at-number.result c.index_mut-pipe.result.now c.pipe_at-number.ensures.named
+    c.index_mut-pipe.ensures.value
 
 pub decide-requires-clause-packet : goal.decide-requires-clause-packet
 decide-requires-clause-packet c =
@@ -73,7 +75,9 @@ decided c =
 stood : (c : goal.After-self-2-1) (J : List Visit)
     → IsToMake c.args.setup.now J c.args.next c.args.self.now.pipes.items c.args.self.now.due c.args.self.now.made
     → IsPipe c.args.setup.now J c.pipe_at-number.result c.index_mut-pipe.result.now
-stood c J t = pipe-at t.making.pipes_are c.pipe_at-number.result c.index_mut-pipe.result.now c.pipe_at-number.ensures.named c.index_mut-pipe.ensures.value
+stood c J t =
+    pipe-at t.making.pipes_are c.pipe_at-number.result c.index_mut-pipe.result.now c.pipe_at-number.ensures.named
+    c.index_mut-pipe.ensures.value
 
 pub returns-clause-visit : goal.returns-clause-visit
 returns-clause-visit c = λ J t. decided-visit (decided c) J (stood c J t)
