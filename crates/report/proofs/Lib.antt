@@ -1,3 +1,4 @@
+pub mod DistilledLines
 pub mod Limits
 pub mod NoCores
 pub mod Numbers

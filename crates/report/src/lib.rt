@@ -1,15 +1,19 @@
-//! The two outputs of a run: the trace of the packets that left, and the report.
-//! It stands on settle, journal, pcap_io, parcel and mn_base.
-//! Its contracts speak in `trace_of` (specs/Traces.antt) and `report_text` (specs/Report.antt).
+//! The two outputs of a run, the trace of the packets that left and the report, and the text of a distilled topology.
+//! It stands on settle, journal, pcap_io, parcel, distill, topo and mn_base.
+//! Its contracts speak in `trace_of` (specs/Traces.antt), `report_text` (specs/Report.antt) and `pipes_text` (specs/Pipes.antt).
 #![tactic(auto)]
 
 pub mod laws;
 mod lines;
+mod pipes_text;
 mod printing;
 mod traces;
 
+pub use pipes_text::print_pipes;
 pub use printing::print_report;
 pub use traces::out_trace;
 
+#[cfg(test)]
+mod pipes_tests;
 #[cfg(test)]
 mod tests;
