@@ -22,7 +22,7 @@ use Rattle.mn_base.specs.declared.due.Due.{Due}
 use Rattle.mn_base.specs.Canonical.{Before, is_before}
 use Rattle.pipe.proofs.CanonicalOrder.{before-transitive, before-either, not_before-transitive, is_before-true, is_before-false}
 use Rattle.journal.specs.declared.due_visits.DueVisit.{DueVisit}
-use Rattle.journal.specs.Entries.{Entry, due_from_entry, pair_cmp, top_cmp, later_visits, of_packet, comes_first, early_of}
+use Rattle.journal.specs.Entries.{HeapEntry, due_from_entry, pair_cmp, top_cmp, later_visits, of_packet, comes_first, early_of}
 use Rattle.journal.specs.Held.{HasNone, TakesVisit}
 
 -- membership by recursion and by index
@@ -130,7 +130,7 @@ not_before-from_pair x y q not_less = go (nat_cmp x.tick y.tick) (nat_cmp x.pack
         absurd (omega arith)
 
 -- no later visit is before that on top of the heap
-not_before-top : (top : Reverse Entry) (rs : List (Reverse Entry)) → IsUpperBound top_cmp top rs → (w : DueVisit)
+not_before-top : (top : Reverse HeapEntry) (rs : List (Reverse HeapEntry)) → IsUpperBound top_cmp top rs → (w : DueVisit)
     → Among w (later_visits rs)
     → Before w.due (due_from_entry top.0).due → ⊥
 not_before-top top [] bound w among before = absurd among
@@ -140,11 +140,11 @@ not_before-top top (r ∷ rs) bound w (inl same) before =
 not_before-top top (r ∷ rs) bound w (inr later) before = not_before-top top rs bound.1 w later before
 
 -- what is known of the visits held: the first ones from an index on, the later ones in the heap
-pub record AreHeld (firsts : List DueVisit) (next : ℕ) (rs : List (Reverse Entry)) : Type 0 where
+pub record AreHeld (firsts : List DueVisit) (next : ℕ) (rs : List (Reverse HeapEntry)) : Type 0 where
   pub rising : AllPairs (λ v w. Before v.due w.due) firsts
   pub once : (n : ℕ) → many_of n (drop next firsts ++ later_visits rs) ≤ 1
 
-once-parts : {firsts : List DueVisit} {next : ℕ} {rs : List (Reverse Entry)} → AreHeld firsts next rs → (n : ℕ)
+once-parts : {firsts : List DueVisit} {next : ℕ} {rs : List (Reverse HeapEntry)} → AreHeld firsts next rs → (n : ℕ)
     → many_of n (drop next firsts) + many_of n (later_visits rs) ≤ 1
 once-parts {firsts} {next} {rs} h n = omega (arith, h.once n, sum_by-append (of_packet n) (drop next firsts) (later_visits rs))
 
@@ -163,19 +163,19 @@ rising-behind firsts next d w rising among =
         (rising next (suc next + k) e (omega arith) within)
 
 -- a first visit that is taken
-pub record TakesEarly (firsts : List DueVisit) (next : ℕ) (rs : List (Reverse Entry)) (first : DueVisit) : Type 0 where
+pub record TakesEarly (firsts : List DueVisit) (next : ℕ) (rs : List (Reverse HeapEntry)) (first : DueVisit) : Type 0 where
   pub within : next < length firsts
   pub first_is : first ≡ get_or firsts next first
   pub ahead : (w : DueVisit) → Among w (later_visits rs) → Before w.due first.due → ⊥
 
-rest-is : {firsts : List DueVisit} {next : ℕ} {rs : List (Reverse Entry)} {first : DueVisit} → TakesEarly firsts next rs first
+rest-is : {firsts : List DueVisit} {next : ℕ} {rs : List (Reverse HeapEntry)} {first : DueVisit} → TakesEarly firsts next rs first
     → drop next firsts ≡ first ∷ drop (next + 1) firsts
 rest-is {firsts} {next} {rs} {first} t =
     drop-cons firsts next first t.within
     ∙ ap (λ v. v ∷ drop (suc next) firsts) (sym t.first_is)
     ∙ ap (λ n. first ∷ drop n firsts) (sym (add-one next))
 
-pub early-once : {firsts : List DueVisit} {next : ℕ} {rs : List (Reverse Entry)} {first : DueVisit} → AreHeld firsts next rs
+pub early-once : {firsts : List DueVisit} {next : ℕ} {rs : List (Reverse HeapEntry)} {first : DueVisit} → AreHeld firsts next rs
     → TakesEarly firsts next rs first
     → (n : ℕ) → many_of n (drop (next + 1) firsts ++ later_visits rs) ≤ 1
 early-once {firsts} {next} {rs} {first} h t n =
@@ -189,7 +189,7 @@ early-once {firsts} {next} {rs} {first} h t n =
       sum_by-append (of_packet n) (drop (next + 1) firsts) (later_visits rs),
     )
 
-pub early-takes : {firsts : List DueVisit} {next : ℕ} {rs : List (Reverse Entry)} {first : DueVisit} → AreHeld firsts next rs
+pub early-takes : {firsts : List DueVisit} {next : ℕ} {rs : List (Reverse HeapEntry)} {first : DueVisit} → AreHeld firsts next rs
     → TakesEarly firsts next rs first
     → TakesVisit (drop next firsts ++ later_visits rs) first (drop (next + 1) firsts ++ later_visits rs)
 early-takes {firsts} {next} {rs} {first} h t =
@@ -211,17 +211,17 @@ early-takes {firsts} {next} {rs} {first} h t =
         (t.ahead w a)
 
 -- the top of the heap that is taken
-pub record TakesLate (firsts : List DueVisit) (next : ℕ) (rs : List (Reverse Entry)) (top : Reverse Entry)
-    (rest : List (Reverse Entry)) : Type 0 where
+pub record TakesLate (firsts : List DueVisit) (next : ℕ) (rs : List (Reverse HeapEntry)) (top : Reverse HeapEntry)
+    (rest : List (Reverse HeapEntry)) : Type 0 where
   pub moved : IsPermutation rs (top ∷ rest)
   pub bound : IsUpperBound top_cmp top rest
   pub ahead : (w : DueVisit) → Among w (drop next firsts) → Before (due_from_entry top.0).due w.due
 
-later-moved : {firsts : List DueVisit} {next : ℕ} {rs rest : List (Reverse Entry)} {top : Reverse Entry} → TakesLate firsts next rs top rest
+later-moved : {firsts : List DueVisit} {next : ℕ} {rs rest : List (Reverse HeapEntry)} {top : Reverse HeapEntry} → TakesLate firsts next rs top rest
     → IsPermutation (later_visits rs) (due_from_entry top.0 ∷ later_visits rest)
-later-moved {firsts} {next} {rs} {rest} {top} t = IsPermutation-map (λ (r : Reverse Entry). due_from_entry r.0) rs (top ∷ rest) t.moved
+later-moved {firsts} {next} {rs} {rest} {top} t = IsPermutation-map (λ (r : Reverse HeapEntry). due_from_entry r.0) rs (top ∷ rest) t.moved
 
-pub late-once : {firsts : List DueVisit} {next : ℕ} {rs rest : List (Reverse Entry)} {top : Reverse Entry} → AreHeld firsts next rs
+pub late-once : {firsts : List DueVisit} {next : ℕ} {rs rest : List (Reverse HeapEntry)} {top : Reverse HeapEntry} → AreHeld firsts next rs
     → TakesLate firsts next rs top rest
     → (n : ℕ) → many_of n (drop next firsts ++ later_visits rest) ≤ 1
 late-once {firsts} {next} {rs} {rest} {top} h t n =
@@ -229,7 +229,7 @@ late-once {firsts} {next} {rs} {rest} {top} h t n =
     let popped = sum_by_popped (of_packet n) (due_from_entry top.0) (later_visits rs) (later_visits rest) (later-moved t) in
     omega (arith, before, popped, sum_by-append (of_packet n) (drop next firsts) (later_visits rest))
 
-pub late-takes : {firsts : List DueVisit} {next : ℕ} {rs rest : List (Reverse Entry)} {top : Reverse Entry} → AreHeld firsts next rs
+pub late-takes : {firsts : List DueVisit} {next : ℕ} {rs rest : List (Reverse HeapEntry)} {top : Reverse HeapEntry} → AreHeld firsts next rs
     → TakesLate firsts next rs top rest
     → TakesVisit (drop next firsts ++ later_visits rs) (due_from_entry top.0) (drop next firsts ++ later_visits rest)
 late-takes {firsts} {next} {rs} {rest} {top} h t = record {
@@ -269,8 +269,8 @@ late-takes {firsts} {next} {rs} {rest} {top} h t = record {
         (not_before-top top rest t.bound w a)
 
 -- where the next first visit comes first, no later one is before it
-pub early-ahead : (first : DueVisit) (rs : List (Reverse Entry)) (later : Option (Reverse Entry)) → (later ≡ None → rs ≡ [])
-    → ((top : Reverse Entry) → later ≡ Some top → IsUpperBound top_cmp top rs) → comes_first first later ≡ true
+pub early-ahead : (first : DueVisit) (rs : List (Reverse HeapEntry)) (later : Option (Reverse HeapEntry)) → (later ≡ None → rs ≡ [])
+    → ((top : Reverse HeapEntry) → later ≡ Some top → IsUpperBound top_cmp top rs) → comes_first first later ≡ true
     → (w : DueVisit) → Among w (later_visits rs) → Before w.due first.due → ⊥
 early-ahead first rs None empty bound test w among before = absurd (subst (λ xs. Among w (later_visits xs)) (empty refl) among)
 early-ahead first rs (Some top) empty bound test w among before =
@@ -283,7 +283,7 @@ early-ahead first rs (Some top) empty bound test w among before =
     go false e = refl
 
 -- and else the top is before all first visits
-late-first : (firsts : List DueVisit) (next : ℕ) (first : DueVisit) (top : Reverse Entry) → AllPairs (λ v w. Before v.due w.due) firsts
+late-first : (firsts : List DueVisit) (next : ℕ) (first : DueVisit) (top : Reverse HeapEntry) → AllPairs (λ v w. Before v.due w.due) firsts
     → next < length firsts
     → first ≡ get_or firsts next first → is_before (due_from_entry top.0).due first.due ≡ true
     → (w : DueVisit) → Among w (drop next firsts) → Before (due_from_entry top.0).due w.due
@@ -298,7 +298,7 @@ late-first firsts next first top rising within first_is test w among =
     before_first = is_before-true (due_from_entry top.0).due first.due test
 
 -- one visit more in the heap, of a packet of which none was held
-pub added-once : (firsts : List DueVisit) (next : ℕ) (rs more : List (Reverse Entry)) (x : Reverse Entry)
+pub added-once : (firsts : List DueVisit) (next : ℕ) (rs more : List (Reverse HeapEntry)) (x : Reverse HeapEntry)
     → ((n : ℕ) → many_of n (drop next firsts ++ later_visits rs) ≤ 1)
     → HasNone (drop next firsts ++ later_visits rs) (due_from_entry x.0).due.packet → IsPermutation (x ∷ rs) more
     → (n : ℕ) → many_of n (drop next firsts ++ later_visits more) ≤ 1
@@ -310,7 +310,7 @@ added-once firsts next rs more x once none moved n = go (cases_order new.due.pac
     pushed : many_of n (later_visits more) ≡ of_packet n new + many_of n (later_visits rs)
     pushed =
         sum_by_pushed (of_packet n) new (later_visits rs) (later_visits more)
-        (IsPermutation-map (λ (r : Reverse Entry). due_from_entry r.0) (x ∷ rs) more moved)
+        (IsPermutation-map (λ (r : Reverse HeapEntry). due_from_entry r.0) (x ∷ rs) more moved)
 
     other : (new.due.packet ≡ n → ⊥) → many_of n (drop next firsts ++ later_visits more) ≤ 1
     other differs =
@@ -340,7 +340,7 @@ added-once firsts next rs more x once none moved n = go (cases_order new.due.pac
     go (inr (inl low)) = other (λ e. omega arith)
     go (inr (inr high)) = other (λ e. omega arith)
 
-pub added-among : (front : List DueVisit) (rs more : List (Reverse Entry)) (x : Reverse Entry) → IsPermutation (x ∷ rs) more
+pub added-among : (front : List DueVisit) (rs more : List (Reverse HeapEntry)) (x : Reverse HeapEntry) → IsPermutation (x ∷ rs) more
     → (w : DueVisit) → Among w (front ++ later_visits more) ↔ ((due_from_entry x.0 ≡ w) ⊎ Among w (front ++ later_visits rs))
 added-among front rs more x moved w = (into, out)
   where
@@ -348,7 +348,7 @@ added-among front rs more x moved w = (into, out)
     new = due_from_entry x.0
 
     mapped : IsPermutation (new ∷ later_visits rs) (later_visits more)
-    mapped = IsPermutation-map (λ (r : Reverse Entry). due_from_entry r.0) (x ∷ rs) more moved
+    mapped = IsPermutation-map (λ (r : Reverse HeapEntry). due_from_entry r.0) (x ∷ rs) more moved
 
     into : Among w (front ++ later_visits more) → (new ≡ w) ⊎ Among w (front ++ later_visits rs)
     into a = ⊎_elim
@@ -425,21 +425,21 @@ read-no_first firsts next r copied copies is within =
     none (Some b) e = cc
 
 -- the top of the heap, as it was looked at
-pub read-top : (rs : List (Reverse Entry)) (r : Option (Bor (Reverse Entry))) (copied : Option (Reverse Entry)) (top : Reverse Entry)
+pub read-top : (rs : List (Reverse HeapEntry)) (r : Option (Bor (Reverse HeapEntry))) (copied : Option (Reverse HeapEntry)) (top : Reverse HeapEntry)
     → copied ≡ option_copied r → IsHeap top_cmp rs
     → IfSome r (λ x. IsHeap top_cmp rs → IsUpperBound top_cmp x.now rs) → copied ≡ Some top → IsUpperBound top_cmp top rs
 read-top rs r copied top copies heap greatest is =
     let s = copied-some (λ x. IsHeap top_cmp rs → IsUpperBound top_cmp x.now rs) r top greatest (sym copies ∙ is) in
     subst (λ t. IsUpperBound top_cmp t rs) s.1 (s.2 heap)
 
-pub read-no_top : (rs : List (Reverse Entry)) (r : Option (Bor (Reverse Entry))) (copied : Option (Reverse Entry))
+pub read-no_top : (rs : List (Reverse HeapEntry)) (r : Option (Bor (Reverse HeapEntry))) (copied : Option (Reverse HeapEntry))
     → copied ≡ option_copied r
     → (0 < length rs → IsSome r) → copied ≡ None → rs ≡ []
 read-no_top [] r copied copies some is = refl
 read-no_top (x ∷ rs) r copied copies some is = absurd (copied-none r (some (omega arith)) (sym copies ∙ is))
 
 -- the first visit that is taken is the next one
-pub early-parts : (copied : Option DueVisit) (later : Option (Reverse Entry)) (first : DueVisit) → Some first ≡ early_of copied later
+pub early-parts : (copied : Option DueVisit) (later : Option (Reverse HeapEntry)) (first : DueVisit) → Some first ≡ early_of copied later
     → (copied ≡ Some first) × (comes_first first later ≡ true)
 early-parts None later first is = cc
 early-parts (Some v) later first is = go (comes_first v later) refl is
@@ -449,7 +449,7 @@ early-parts (Some v) later first is = go (comes_first v later) refl is
     go false t e = cc
 
 -- the top that is taken is the one that was looked at
-pub top-same : (rs rest : List (Reverse Entry)) (r : Option (Bor (Reverse Entry))) (copied : Option (Reverse Entry)) (top : Reverse Entry)
+pub top-same : (rs rest : List (Reverse HeapEntry)) (r : Option (Bor (Reverse HeapEntry))) (copied : Option (Reverse HeapEntry)) (top : Reverse HeapEntry)
     → copied ≡ option_copied r
     → IfSome r (λ x. x.now ≡ get_or rs 0 x.now) → (0 < length rs → IsSome r) → IsPermutation rs (top ∷ rest) → top ≡ get_or rs 0 top
     → copied ≡ Some top
@@ -458,13 +458,13 @@ top-same rs rest r copied top copies looked some moved is = copies ∙ go r look
     full : 0 < length rs
     full = let l : length (top ∷ rest) ≡ length rs = length_permutation rs (top ∷ rest) moved in omega arith
 
-    go : (o : Option (Bor (Reverse Entry))) → IfSome o (λ x. x.now ≡ get_or rs 0 x.now) → IsSome o → option_copied o ≡ Some top
+    go : (o : Option (Bor (Reverse HeapEntry))) → IfSome o (λ x. x.now ≡ get_or rs 0 x.now) → IsSome o → option_copied o ≡ Some top
     go None at none = absurd (false≢true none)
     go (Some b) at none = ap Some (at ∙ get_or_default rs 0 b.now top full ∙ sym is)
 
 -- and it is before all first visits that are held, if none of them came first
-pub late-ahead : (firsts : List DueVisit) (next : ℕ) (r : Option (Bor DueVisit)) (copied : Option DueVisit) (later : Option (Reverse Entry))
-    (top : Reverse Entry)
+pub late-ahead : (firsts : List DueVisit) (next : ℕ) (r : Option (Bor DueVisit)) (copied : Option DueVisit) (later : Option (Reverse HeapEntry))
+    (top : Reverse HeapEntry)
     → AllPairs (λ v w. Before v.due w.due) firsts → copied ≡ option_copied r → is_some r ≡ nat_lt next (length firsts)
     → IfSome r (λ x. x.now ≡ get_or firsts next x.now) → later ≡ Some top → None ≡ early_of copied later
     → (w : DueVisit) → Among w (drop next firsts) → Before (due_from_entry top.0).due w.due
@@ -480,7 +480,7 @@ late-ahead firsts next r (Some first) later top rising copies within reads looke
     go false e = cc
 
 -- with an empty heap all first visits are held, and no other
-pub held-firsts : (ws : List DueVisit) (rs : List (Reverse Entry)) → rs ≡ [] → drop 0 ws ++ later_visits rs ≡ ws
+pub held-firsts : (ws : List DueVisit) (rs : List (Reverse HeapEntry)) → rs ≡ [] → drop 0 ws ++ later_visits rs ≡ ws
 held-firsts ws rs none = ap (λ xs. ws ++ later_visits xs) none ∙ append-nil ws
 
 pub among-sorted : (ws sorted held : List DueVisit) → IsPermutation ws sorted → held ≡ sorted → (w : DueVisit) → Among w held ↔ Among w ws

@@ -9,20 +9,20 @@ use Rattle.journal.specs.declared.due_visits.DueVisit.{DueVisit}
 use Rattle.journal.specs.declared.due_visits.DueVisits.TheInside.{Inside}
 
 -- a due visit as it is ordered: tick and packet, then hop and index
-abbrev pub Entry : Type 0
-Entry = (ℕ × ℕ) × (ℕ × ℕ)
+abbrev pub HeapEntry : Type 0
+HeapEntry = (ℕ × ℕ) × (ℕ × ℕ)
 
-abbrev pub due_from_entry : Entry → DueVisit
+abbrev pub due_from_entry : HeapEntry → DueVisit
 due_from_entry e = record { due = record { tick = e.0.0; packet = e.0.1; hop = e.1.0 }; index = e.1.1 }
 
 abbrev pub pair_cmp : ℕ × ℕ → ℕ × ℕ → Ordering
 pair_cmp x y = ordering_then (nat_cmp x.0 y.0) (nat_cmp x.1 y.1)
 
 -- the heap's order, in which the least entry is on top
-abbrev pub top_cmp : Reverse Entry → Reverse Entry → Ordering
+abbrev pub top_cmp : Reverse HeapEntry → Reverse HeapEntry → Ordering
 top_cmp x y = ordering_then (pair_cmp y.0.0 x.0.0) (pair_cmp y.0.1 x.0.1)
 
-abbrev pub later_visits : List (Reverse Entry) → List DueVisit
+abbrev pub later_visits : List (Reverse HeapEntry) → List DueVisit
 later_visits rs = map (λ r. due_from_entry r.0) rs
 
 -- of the first visits those from an index on are held, and all later ones
@@ -41,11 +41,11 @@ pub record AreOrdered (q : Inside) : Type 0 where
   pub once : (packet : ℕ) → sum_by (of_packet packet) (held_visits q) ≤ 1
 
 -- whether a first visit is made before the least of the later ones, if there is any
-abbrev pub comes_first : DueVisit → Option (Reverse Entry) → Bool
+abbrev pub comes_first : DueVisit → Option (Reverse HeapEntry) → Bool
 comes_first first None = true
 comes_first first (Some top) = not (is_before (due_from_entry top.0).due first.due)
 
 -- the next first visit, if it is made before the least of the later ones
-abbrev pub early_of : Option DueVisit → Option (Reverse Entry) → Option DueVisit
+abbrev pub early_of : Option DueVisit → Option (Reverse HeapEntry) → Option DueVisit
 early_of None later = None
 early_of (Some first) later = if comes_first first later then Some first else None

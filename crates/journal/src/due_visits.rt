@@ -18,7 +18,7 @@ pub(crate) struct DueVisit {
 }
 
 /// A due visit as it is ordered: tick and packet, then hop and index.
-type Entry = ((u64, u32), (u32, u32));
+type HeapEntry = ((u64, u32), (u32, u32));
 
 /// The due visits that aren't made yet. Of each packet there is one at most.
 ///
@@ -28,7 +28,7 @@ type Entry = ((u64, u32), (u32, u32));
 pub(crate) struct DueVisits {
     firsts: Vec<DueVisit>,
     next: usize,
-    laters: BinaryHeap<Reverse<Entry>>,
+    laters: BinaryHeap<Reverse<HeapEntry>>,
 }
 
 impl Model for DueVisits {
@@ -85,7 +85,7 @@ impl DueVisits {
     }
 }
 
-fn visit_of_entry(entry: Entry) -> DueVisit
+fn visit_of_entry(entry: HeapEntry) -> DueVisit
     ensures { result ≡ due_from_entry entry }
 {
     let ((tick, packet), (hop, index)) = entry;
@@ -96,7 +96,7 @@ fn visit_of_entry(entry: Entry) -> DueVisit
 }
 
 /// The next first visit, if it is made before the least of the later ones.
-fn early(first: Option<DueVisit>, later: Option<Reverse<Entry>>) -> Option<DueVisit>
+fn early(first: Option<DueVisit>, later: Option<Reverse<HeapEntry>>) -> Option<DueVisit>
     ensures { result ≡ early_of first later }
 {
     let first = first?;
@@ -108,7 +108,7 @@ fn early(first: Option<DueVisit>, later: Option<Reverse<Entry>>) -> Option<DueVi
 }
 
 /// Whether a first visit is made before the least of the later ones, if there is any.
-fn comes_first(first: DueVisit, later: Option<Reverse<Entry>>) -> bool
+fn comes_first(first: DueVisit, later: Option<Reverse<HeapEntry>>) -> bool
     ensures { result ≡ comes_first first later }
 {
     let Some(Reverse(((tick, packet), _))) = later else {
