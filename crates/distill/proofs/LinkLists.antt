@@ -19,7 +19,8 @@ pub arcs_are_among : (nodes : ℕ) (links : List Link) → All (IsLink nodes) li
 arcs_are_among nodes links all = All-map (IsArcAmong nodes) arc_of links (λ i d within. arc_is_among nodes (get_or links i d) (all i d within))
 
 -- a pair more behind two lists that agree
-pub AllZip-push : {A B : Type 0} (R : A → B → Type 0) (xs : List A) (ys : List B) (x : A) (y : B) → AllZip R xs ys → R x y → AllZip R (xs ++ x ∷ []) (ys ++ y ∷ [])
+pub AllZip-push : {A B : Type 0} (R : A → B → Type 0) (xs : List A) (ys : List B) (x : A) (y : B) → AllZip R xs ys → R x y
+    → AllZip R (xs ++ x ∷ []) (ys ++ y ∷ [])
 AllZip-push R [] [] x y all here = (here, tt)
 AllZip-push R [] (z ∷ ys) x y all here = absurd all
 AllZip-push R (z ∷ xs) [] x y all here = absurd all
@@ -31,10 +32,12 @@ pub kept_more : (tick_ns : ℕ) (links : List Link) (pipes pipes' : List Distill
     → AllZip (IsKept tick_ns) (take (i + 1) links) pipes'
 kept_more tick_ns links pipes pipes' i d pipe within all here pushed =
     subst (λ ps. AllZip (IsKept tick_ns) (take (i + 1) links) ps) (sym pushed)
-    (subst (λ ls. AllZip (IsKept tick_ns) ls (pipes ++ pipe ∷ [])) (sym (take_more links i d within)) (AllZip-push (IsKept tick_ns) (take i links) pipes (get_or links i d) pipe all here))
+    (subst (λ ls. AllZip (IsKept tick_ns) ls (pipes ++ pipe ∷ [])) (sym (take_more links i d within))
+    (AllZip-push (IsKept tick_ns) (take i links) pipes (get_or links i d) pipe all here))
 
 -- what holds of each link holds of those of any numbers
-pub All-links_at : (P : Link → Type 0) (links : List Link) (numbers : List ℕ) → All P links → All (λ e. e < length links) numbers → All P (links_at links numbers)
+pub All-links_at : (P : Link → Type 0) (links : List Link) (numbers : List ℕ) → All P links → All (λ e. e < length links) numbers
+    → All P (links_at links numbers)
 All-links_at P links numbers all within =
     All-map P (link_at links) numbers (λ i d below. All-get_or P links (get_or numbers i d) no_link (within i d below) all)
 

@@ -28,46 +28,61 @@ pub record AreMade (tick_ns : ℕ) (links : List Link) (parts : PartsView) (kept
   pub mesh_is : IsMesh tick_ns (links_at links parts.middle) parts.border mesh
   pub pipes_are : pipes ≡ kept ++ mesh
 
-kept_len : (tick_ns : ℕ) (links : List Link) (parts : PartsView) (kept mesh pipes : List DistilledPipe) → AreMade tick_ns links parts kept mesh pipes → length parts.kept ≡ length kept
-kept_len tick_ns links parts kept mesh pipes m = sym (length-map parts.kept (link_at links)) ∙ length-AllZip (IsKept tick_ns) (links_at links parts.kept) kept m.kept_are
+kept_len : (tick_ns : ℕ) (links : List Link) (parts : PartsView) (kept mesh pipes : List DistilledPipe)
+    → AreMade tick_ns links parts kept mesh pipes → length parts.kept ≡ length kept
+kept_len tick_ns links parts kept mesh pipes m = sym (length-map parts.kept (link_at links))
+    ∙ length-AllZip (IsKept tick_ns) (links_at links parts.kept) kept m.kept_are
 
-pub are_pipes : (tick_ns : ℕ) (links : List Link) (parts : PartsView) (kept mesh pipes : List DistilledPipe) → AreMade tick_ns links parts kept mesh pipes → ArePipesOfParts tick_ns links parts pipes
+pub are_pipes : (tick_ns : ℕ) (links : List Link) (parts : PartsView) (kept mesh pipes : List DistilledPipe)
+    → AreMade tick_ns links parts kept mesh pipes → ArePipesOfParts tick_ns links parts pipes
 are_pipes tick_ns links parts kept mesh pipes m =
     let len = kept_len tick_ns links parts kept mesh pipes m in
-    let front : take (length parts.kept) pipes ≡ kept = ap (λ n. take n pipes) len ∙ ap (take (length kept)) m.pipes_are ∙ take-append_seam kept mesh in
-    let behind : drop (length parts.kept) pipes ≡ mesh = ap (λ n. drop n pipes) len ∙ ap (drop (length kept)) m.pipes_are ∙ drop-append_seam kept mesh in
+    let front : take (length parts.kept) pipes ≡ kept = ap (λ n. take n pipes) len ∙ ap (take (length kept)) m.pipes_are
+    ∙ take-append_seam kept mesh in
+    let behind : drop (length parts.kept) pipes ≡ mesh = ap (λ n. drop n pipes) len ∙ ap (drop (length kept)) m.pipes_are
+    ∙ drop-append_seam kept mesh in
     record {
       kept = subst (AllZip (IsKept tick_ns) (links_at links parts.kept)) (sym front) m.kept_are;
       mesh = subst (IsMesh tick_ns (links_at links parts.middle) parts.border) (sym behind) m.mesh_is;
     }
 
 -- how many they are
-pub made_count : (tick_ns : ℕ) (links : List Link) (parts : PartsView) (kept mesh pipes : List DistilledPipe) (count : ℕ) → AreMade tick_ns links parts kept mesh pipes
+pub made_count : (tick_ns : ℕ) (links : List Link) (parts : PartsView) (kept mesh pipes : List DistilledPipe) (count : ℕ)
+    → AreMade tick_ns links parts kept mesh pipes
     → HasPairCount (arcs_of (links_at links parts.middle)) parts.border count → length pipes ≡ length parts.kept + count
 made_count tick_ns links parts kept mesh pipes count m c =
     let len = kept_len tick_ns links parts kept mesh pipes m in
     let meshed = length-mesh tick_ns (links_at links parts.middle) parts.border mesh count m.mesh_is c in
     omega (arith, ap length m.pipes_are, length-append kept mesh)
 
-pub has_parts_count : (tick_ns : ℕ) (links : List Link) (parts : PartsView) (kept mesh pipes : List DistilledPipe) (count : ℕ) → AreMade tick_ns links parts kept mesh pipes
+pub has_parts_count : (tick_ns : ℕ) (links : List Link) (parts : PartsView) (kept mesh pipes : List DistilledPipe) (count : ℕ)
+    → AreMade tick_ns links parts kept mesh pipes
     → HasPairCount (arcs_of (links_at links parts.middle)) parts.border count → HasPartsCount links parts (length pipes)
-has_parts_count tick_ns links parts kept mesh pipes count m c = record { mesh_count = count; mesh = c; sum = made_count tick_ns links parts kept mesh pipes count m c }
+has_parts_count tick_ns links parts kept mesh pipes count m c =
+    record { mesh_count = count; mesh = c; sum = made_count tick_ns links parts kept mesh pipes count m c }
 
 -- their ends are nodes
-kept_among : (tick_ns n : ℕ) (links : List Link) (kept : List DistilledPipe) → AllZip (IsKept tick_ns) links kept → All (IsLink n) links → All (IsPipeAmong n) kept
+kept_among : (tick_ns n : ℕ) (links : List Link) (kept : List DistilledPipe) → AllZip (IsKept tick_ns) links kept → All (IsLink n) links
+    → All (IsPipeAmong n) kept
 kept_among tick_ns n [] [] all hold = λ i d within. absurd (omega arith)
 kept_among tick_ns n [] (p ∷ kept) all hold = absurd all
 kept_among tick_ns n (l ∷ links) [] all hold = absurd all
 kept_among tick_ns n (l ∷ links) (p ∷ kept) all hold =
     let first = hold 0 l (omega arith) in
     All-cons (IsPipeAmong n) p kept
-    (record { from = subst (λ (v : ℕ). v < n) (sym (let here = all.0 in here.from)) first.leaves; to = subst (λ (v : ℕ). v < n) (sym (let here = all.0 in here.to)) first.enters })
+    (record {
+      from = subst (λ (v : ℕ). v < n) (sym (let here = all.0 in here.from)) first.leaves;
+      to = subst
+          (λ (v : ℕ). v < n) (sym (let here = all.0 in here.to)) first.enters;
+    })
     (kept_among tick_ns n links kept all.1 (λ i d within. hold (suc i) d (omega arith)))
 
-pub made_among : (tick_ns n : ℕ) (links : List Link) (parts : PartsView) (kept mesh pipes : List DistilledPipe) → AreMade tick_ns links parts kept mesh pipes
+pub made_among : (tick_ns n : ℕ) (links : List Link) (parts : PartsView) (kept mesh pipes : List DistilledPipe)
+    → AreMade tick_ns links parts kept mesh pipes
     → All (IsLink n) (links_at links parts.kept) → All (λ v. v < n) parts.border → All (IsPipeAmong n) pipes
 made_among tick_ns n links parts kept mesh pipes m hold border =
-    subst (All (IsPipeAmong n)) (sym m.pipes_are) (All-append (IsPipeAmong n) kept mesh (kept_among tick_ns n (links_at links parts.kept) kept m.kept_are hold) meshed)
+    subst (All (IsPipeAmong n)) (sym m.pipes_are)
+    (All-append (IsPipeAmong n) kept mesh (kept_among tick_ns n (links_at links parts.kept) kept m.kept_are hold) meshed)
   where
     meshed : All (IsPipeAmong n) mesh
     meshed i d within =
@@ -83,7 +98,8 @@ pub record AreChosenLinks (n : ℕ) (links : List Link) (numbers : List ℕ) (sh
   pub are : shown ≡ links_at links numbers
   pub hold : All (IsLink n) shown
 
-pub chosen_links : (n : ℕ) (links lent found shown : List Link) (numbers told : List ℕ) → lent ≡ links → told ≡ numbers → found ≡ links_at lent told → shown ≡ found
+pub chosen_links : (n : ℕ) (links lent found shown : List Link) (numbers told : List ℕ) → lent ≡ links → told ≡ numbers
+    → found ≡ links_at lent told → shown ≡ found
     → All (IsLink n) lent → All (λ e. e < length links) numbers → AreChosenLinks n links numbers shown
 chosen_links n links lent found shown numbers told same named is passed hold within =
     let are : shown ≡ links_at links numbers = passed ∙ is ∙ ap (λ ls. links_at ls told) same ∙ ap (links_at links) named in

@@ -41,7 +41,9 @@ behind_wider l m narrow links less f = record {
   front = l ∷ f.front;
   rest = f.rest;
   is = ap (λ ls. l ∷ ls) f.is;
-  wider = λ x there. ⊎_elim (λ (same : l ≡ x). let few = no_wider m narrow links f in let b : l.bps ≡ x.bps = ap (λ (y : Link). y.bps) same in omega arith) (λ later. f.wider x later) there;
+  wider = λ x there. ⊎_elim
+      (λ (same : l ≡ x). let few = no_wider m narrow links f in let b : l.bps ≡ x.bps = ap (λ (y : Link). y.bps) same in omega arith)
+      (λ later. f.wider x later) there;
   as_wide = f.as_wide;
 }
 
@@ -49,7 +51,8 @@ behind_wider l m narrow links less f = record {
 before_as_wide : (l m narrow : Link) (links : List Link) → l.bps ≤ m.bps → IsFirstOfLeast (l ∷ links) narrow → IsFirstOfLeast (l ∷ m ∷ links) narrow
 before_as_wide l m narrow links no_less f = go f.front f.is f.wider
   where
-    go : (front : List Link) → l ∷ links ≡ front ++ narrow ∷ f.rest → ((x : Link) → Among x front → narrow.bps < x.bps) → IsFirstOfLeast (l ∷ m ∷ links) narrow
+    go : (front : List Link) → l ∷ links ≡ front ++ narrow ∷ f.rest → ((x : Link) → Among x front → narrow.bps < x.bps)
+        → IsFirstOfLeast (l ∷ m ∷ links) narrow
     go [] is wider =
         let same : l ≡ narrow = cc in
         let tail : links ≡ f.rest = cc in
@@ -59,7 +62,8 @@ before_as_wide l m narrow links no_less f = go f.front f.is f.wider
           rest = m ∷ f.rest;
           is = ap (λ ls. l ∷ m ∷ ls) tail ∙ ap (λ x. x ∷ m ∷ f.rest) same;
           wider = λ x there. absurd there;
-          as_wide = λ x there. ⊎_elim (λ (here : m ≡ x). let c : m.bps ≡ x.bps = ap (λ (y : Link). y.bps) here in omega arith) (λ later. f.as_wide x later) there;
+          as_wide = λ x there. ⊎_elim (λ (here : m ≡ x). let c : m.bps ≡ x.bps = ap (λ (y : Link). y.bps) here in omega arith)
+              (λ later. f.as_wide x later) there;
         }
     go (x ∷ front) is wider =
         let same : x ≡ l = cc in
@@ -69,7 +73,9 @@ before_as_wide l m narrow links no_less f = go f.front f.is f.wider
           front = l ∷ m ∷ front;
           rest = f.rest;
           is = ap (λ ls. l ∷ m ∷ ls) tail;
-          wider = λ y there. ⊎_elim (λ (here : l ≡ y). wider y (inl (same ∙ here))) (λ behind. ⊎_elim (λ (here : m ≡ y). let c : m.bps ≡ y.bps = ap (λ (z : Link). z.bps) here in omega arith) (λ later. wider y (inr later)) behind) there;
+          wider = λ y there. ⊎_elim (λ (here : l ≡ y). wider y (inl (same ∙ here)))
+              (λ behind. ⊎_elim (λ (here : m ≡ y). let c : m.bps ≡ y.bps = ap (λ (z : Link). z.bps) here in omega arith)
+              (λ later. wider y (inr later)) behind) there;
           as_wide = f.as_wide;
         }
 

@@ -69,11 +69,13 @@ push_at P (g ∷ fs) f (suc i) all here = push_at P fs f i (λ j. all (suc j)) h
 
 pub frontier_is_chosen : (t : TopologyView) (k i : ℕ) → AreChosen (length t.nodes) (get_or (frontiers_of t k) i [])
 unfolding frontiers_of
-frontier_is_chosen t zero i = push_at (AreChosen (length t.nodes)) [] (edge_nodes_of t.nodes) i (λ j. none_chosen (length t.nodes)) (chosen _ (length t.nodes))
+frontier_is_chosen t zero i = push_at (AreChosen (length t.nodes)) [] (edge_nodes_of t.nodes) i
+    (λ j. none_chosen (length t.nodes)) (chosen _ (length t.nodes))
 frontier_is_chosen t (suc k) i = push_at (AreChosen (length t.nodes)) (frontiers_of t k) _ i (frontier_is_chosen t k) (chosen _ (length t.nodes))
 
 -- parts around a border of chosen nodes
-sound_around : (t : TopologyView) (outer : ℕ → Bool) (border : List ℕ) → length t.nodes ≤ NODES_MAX → AreChosen (length t.nodes) border → AreSound t (parts_around t.links outer border)
+sound_around : (t : TopologyView) (outer : ℕ → Bool) (border : List ℕ) → length t.nodes ≤ NODES_MAX → AreChosen (length t.nodes) border
+    → AreSound t (parts_around t.links outer border)
 sound_around t outer border few chosen_border =
     let kept = chosen (λ e. is_outer_link outer (link_at t.links e)) (length t.links) in
     let middle = chosen (λ e. not (is_outer_link outer (link_at t.links e))) (length t.links) in

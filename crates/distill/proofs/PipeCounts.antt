@@ -17,7 +17,8 @@ use Rattle.distill.proofs.SortedMesh.{length-mesh}
 one_pair_count : (arcs : List Arc) (border : List ℕ) (m n : ℕ) → HasPairCount arcs border m → HasPairCount arcs border n → m ≡ n
 one_pair_count arcs border m n first second =
     first.count_is
-    ∙ distinct_as_long first.pairs second.pairs first.are.once second.are.once (λ p there. second.are.all p (first.are.each p there)) (λ p there. first.are.all p (second.are.each p there))
+    ∙ distinct_as_long first.pairs second.pairs first.are.once second.are.once (λ p there. second.are.all p (first.are.each p there))
+    (λ p there. first.are.all p (second.are.each p there))
     ∙ sym second.count_is
 
 pub one_pipe_count : OnePipeCount
@@ -30,7 +31,12 @@ pipes_are_counted t mode tick_ns n d is count =
     let parts : PartsView = parts_of t mode in
     let pipes : List DistilledPipe = d.pipes in
     let made = is.pipes in
-    let kept : length parts.kept ≡ length (take (length parts.kept) pipes) = sym (length-map parts.kept (link_at t.links)) ∙ length-AllZip (IsKept tick_ns) (links_at t.links parts.kept) (take (length parts.kept) pipes) made.kept in
-    let mesh : length (drop (length parts.kept) pipes) ≡ count.mesh_count = length-mesh tick_ns (links_at t.links parts.middle) parts.border (drop (length parts.kept) pipes) count.mesh_count made.mesh count.mesh in
-    let whole : length (take (length parts.kept) pipes) + length (drop (length parts.kept) pipes) ≡ length pipes = sym (length-append (take (length parts.kept) pipes) (drop (length parts.kept) pipes)) ∙ ap length (take-append-drop (length parts.kept) pipes) in
+    let kept : length parts.kept ≡ length (take (length parts.kept) pipes) = sym (length-map parts.kept (link_at t.links))
+    ∙ length-AllZip (IsKept tick_ns) (links_at t.links parts.kept) (take (length parts.kept) pipes) made.kept in
+    let mesh : length (drop (length parts.kept) pipes) ≡ count.mesh_count =
+    length-mesh tick_ns (links_at t.links parts.middle) parts.border
+    (drop (length parts.kept) pipes) count.mesh_count made.mesh count.mesh in
+    let whole : length (take (length parts.kept) pipes) + length (drop (length parts.kept) pipes) ≡ length pipes =
+    sym (length-append (take (length parts.kept) pipes) (drop (length parts.kept) pipes))
+    ∙ ap length (take-append-drop (length parts.kept) pipes) in
     omega (arith, kept, mesh, whole, count.sum)

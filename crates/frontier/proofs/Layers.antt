@@ -19,7 +19,8 @@ length-frontiers_of t (suc k) =
     let both = length-append (frontiers_of t k) (frontier_after t (frontiers_of t k) (get_or (frontiers_of t k) k []) ∷ []) in
     omega (arith, both)
 
-pub frontiers_of-more : (t : TopologyView) (k : ℕ) → frontiers_of t (k + 1) ≡ frontiers_of t k ++ frontier_after t (frontiers_of t k) (get_or (frontiers_of t k) k []) ∷ []
+pub frontiers_of-more : (t : TopologyView) (k : ℕ)
+    → frontiers_of t (k + 1) ≡ frontiers_of t k ++ frontier_after t (frontiers_of t k) (get_or (frontiers_of t k) k []) ∷ []
 unfolding frontiers_of
 frontiers_of-more t k = rw add-one refl
 
@@ -33,9 +34,12 @@ pub frontier_after-is : (t : TopologyView) (k : ℕ) (before : List (List ℕ)) 
     → next ≡ filter (λ v. not (reached v) && is_beside t.links (λ u. is_in u last) v) (range_with_len 0 (length t.nodes))
     → before ++ next ∷ [] ≡ frontiers_of t (k + 1)
 frontier_after-is t k before reached last next same reaches is_last is =
-    let step : next ≡ frontier_after t (frontiers_of t k) last = is ∙ filter-same _ _ (range_with_len 0 (length t.nodes)) (λ v. ap (λ b. not b && is_beside t.links (λ u. is_in u last) v) (reaches v)) in
+    let step : next ≡ frontier_after t (frontiers_of t k) last = is
+    ∙ filter-same _ _ (range_with_len 0 (length t.nodes))
+    (λ v. ap (λ b. not b && is_beside t.links (λ u. is_in u last) v) (reaches v)) in
     let last_is : last ≡ get_or (frontiers_of t k) k [] = is_last ∙ ap (λ fs. get_or fs k []) same in
-    ap (λ fs. fs ++ next ∷ []) same ∙ ap (λ f. frontiers_of t k ++ f ∷ []) (step ∙ ap (frontier_after t (frontiers_of t k)) last_is) ∙ sym (frontiers_of-more t k)
+    ap (λ fs. fs ++ next ∷ []) same ∙ ap (λ f. frontiers_of t k ++ f ∷ []) (step ∙ ap (frontier_after t (frontiers_of t k)) last_is)
+    ∙ sym (frontiers_of-more t k)
 
 -- and after it
 pub reached-more : (t : TopologyView) (k v : ℕ) (before : List (List ℕ)) (next : List ℕ) (reached reached' : Bool) → before ≡ frontiers_of t k
@@ -82,7 +86,8 @@ is_beside-same (l ∷ links) set set' v same =
     ∙ ap (λ b. joins_to set' v l || b) (is_beside-same links set set' v same)
 
 -- the last of the lists, as the code reads it
-pub last-is : (fs : List (Vec ℕ Global)) (k : ℕ) (f : Vec ℕ Global) → k < length fs → f ≡ get_or fs k f → f.items ≡ get_or (map (λ (f : Vec ℕ Global). f.items) fs) k []
+pub last-is : (fs : List (Vec ℕ Global)) (k : ℕ) (f : Vec ℕ Global) → k < length fs → f ≡ get_or fs k f
+    → f.items ≡ get_or (map (λ (f : Vec ℕ Global). f.items) fs) k []
 last-is fs k f within is = ap (λ (f : Vec ℕ Global). f.items) is ∙ sym (get_or-map (λ (f : Vec ℕ Global). f.items) fs k f [] within)
 
 -- all lists have nodes alone, with one list more
@@ -93,7 +98,8 @@ All-push P (y ∷ xs) x all here zero d within = all 0 d (omega arith)
 All-push P (y ∷ xs) x all here (suc k) d within = All-push P xs x (λ i e w. all (suc i) e (omega arith)) here k d (omega arith)
 
 -- what is true of each list in a push
-pub items-push : (fs fs' : List (Vec ℕ Global)) (f : Vec ℕ Global) → fs' ≡ fs ++ f ∷ [] → map (λ (f : Vec ℕ Global). f.items) fs' ≡ map (λ (f : Vec ℕ Global). f.items) fs ++ f.items ∷ []
+pub items-push : (fs fs' : List (Vec ℕ Global)) (f : Vec ℕ Global) → fs' ≡ fs ++ f ∷ []
+    → map (λ (f : Vec ℕ Global). f.items) fs' ≡ map (λ (f : Vec ℕ Global). f.items) fs ++ f.items ∷ []
 items-push fs fs' f is = ap (map (λ (f : Vec ℕ Global). f.items)) is ∙ map-append (λ (f : Vec ℕ Global). f.items) fs (f ∷ [])
 
 -- the first frontier
@@ -101,7 +107,8 @@ pub first-is : (t : TopologyView) (first : List ℕ) → first ≡ edge_nodes_of
 unfolding frontiers_of
 first-is t first is = ap (λ f. f ∷ []) is
 
-pub first-reached : (t : TopologyView) (v : ℕ) (first : List ℕ) (now now' : Bool) → first ≡ edge_nodes_of t.nodes → now ≡ false → now' ≡ (now || is_in v first) → now' ≡ is_in_one v (frontiers_of t 0)
+pub first-reached : (t : TopologyView) (v : ℕ) (first : List ℕ) (now now' : Bool) → first ≡ edge_nodes_of t.nodes → now ≡ false
+    → now' ≡ (now || is_in v first) → now' ≡ is_in_one v (frontiers_of t 0)
 unfolding frontiers_of
 first-reached t v first now now' is none added =
     added ∙ ap (λ b. b || is_in v first) none ∙ ap (is_in v) is ∙ sym (or_false (is_in v (edge_nodes_of t.nodes)))
@@ -109,5 +116,7 @@ first-reached t v first now now' is none added =
 -- every frontier has nodes alone
 pub frontiers_of-below : (t : TopologyView) (k : ℕ) → All (λ f. All (λ v. v < length t.nodes) f) (frontiers_of t k)
 unfolding frontiers_of
-frontiers_of-below t zero = All-push (λ f. All (λ v. v < length t.nodes) f) [] (edge_nodes_of t.nodes) (λ i d within. absurd (omega arith)) (filter-range-below _ (length t.nodes))
-frontiers_of-below t (suc k) = All-push (λ f. All (λ v. v < length t.nodes) f) (frontiers_of t k) _ (frontiers_of-below t k) (filter-range-below _ (length t.nodes))
+frontiers_of-below t zero = All-push (λ f. All (λ v. v < length t.nodes) f) [] (edge_nodes_of t.nodes)
+    (λ i d within. absurd (omega arith)) (filter-range-below _ (length t.nodes))
+frontiers_of-below t (suc k) = All-push
+    (λ f. All (λ v. v < length t.nodes) f) (frontiers_of t k) _ (frontiers_of-below t k) (filter-range-below _ (length t.nodes))

@@ -9,7 +9,8 @@ append-nil : {X : Type 0} (xs : List X) → xs ++ [] ≡ xs
 append-nil [] = refl
 append-nil (x ∷ xs) = ap (λ l. x ∷ l) (append-nil xs)
 
-lines-push : (nodes : List Node) (n : ℕ) (pipes : List DistilledPipe) (pipe : DistilledPipe) → distilled_lines nodes n (pipes ++ pipe ∷ []) ≡ distilled_lines nodes n pipes ++ distilled_line nodes (n + length pipes) pipe
+lines-push : (nodes : List Node) (n : ℕ) (pipes : List DistilledPipe) (pipe : DistilledPipe)
+    → distilled_lines nodes n (pipes ++ pipe ∷ []) ≡ distilled_lines nodes n pipes ++ distilled_line nodes (n + length pipes) pipe
 lines-push nodes n [] pipe = append-nil (distilled_line nodes n pipe) ∙ ap (λ m. distilled_line nodes m pipe) (sym (add-zero n))
 lines-push nodes n (p ∷ pipes) pipe =
     let here : (n + 1) + length pipes ≡ n + suc (length pipes) = omega arith in

@@ -9,6 +9,9 @@ pub parts_around-is : (links lent : List Link) (outer : ℕ → Bool) (n : ℕ) 
     → middle ≡ filter (λ e. not (is_outer_link outer (link_at lent e))) (range_with_len 0 n)
     → record { kept = kept; border = border; middle = middle } ≡ parts_around links outer border
 parts_around-is links lent outer n kept border middle same size kept_is middle_is =
-    ap (λ (x : List ℕ). record { kept = x; border = border; middle = middle }) (kept_is ∙ ap (λ k. filter (λ e. is_outer_link outer (link_at lent e)) (range_with_len 0 k)) size)
-    ∙ ap (λ (x : List ℕ). record { kept = filter (λ e. is_outer_link outer (link_at lent e)) (range_with_len 0 (length lent)); border = border; middle = x }) (middle_is ∙ ap (λ k. filter (λ e. not (is_outer_link outer (link_at lent e))) (range_with_len 0 k)) size)
+    ap (λ (x : List ℕ). record { kept = x; border = border; middle = middle }) (kept_is
+    ∙ ap (λ k. filter (λ e. is_outer_link outer (link_at lent e)) (range_with_len 0 k)) size)
+    ∙ ap (λ (x : List ℕ).
+    record { kept = filter (λ e. is_outer_link outer (link_at lent e)) (range_with_len 0 (length lent)); border = border; middle = x })
+    (middle_is ∙ ap (λ k. filter (λ e. not (is_outer_link outer (link_at lent e))) (range_with_len 0 k)) size)
     ∙ ap (λ ls. parts_around ls outer border) same

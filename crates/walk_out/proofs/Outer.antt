@@ -46,19 +46,35 @@ pub items_of-drop : (fs : List (Vec ℕ Global)) (gs : List (List ℕ)) (w : ℕ
 items_of-drop fs gs w same = sym (drop-map (λ (f : Vec ℕ Global). f.items) w fs) ∙ ap (drop w) same
 
 -- the parts are the same where the outer nodes and the border are
-pub parts_around-same : (links : List Link) (s s' : ℕ → Bool) (b b' : List ℕ) → ((v : ℕ) → s v ≡ s' v) → b ≡ b' → parts_around links s b ≡ parts_around links s' b'
+pub parts_around-same : (links : List Link) (s s' : ℕ → Bool) (b b' : List ℕ) → ((v : ℕ) → s v ≡ s' v) → b ≡ b'
+    → parts_around links s b ≡ parts_around links s' b'
 parts_around-same links s s' b b' same border =
-    ap (λ (x : List ℕ). record { kept = x; border = b; middle = filter (λ e. not (is_outer_link s (link_at links e))) (range_with_len 0 (length links)) }) kept
-    ∙ ap (λ (x : List ℕ). record { kept = filter (λ e. is_outer_link s' (link_at links e)) (range_with_len 0 (length links)); border = x; middle = filter (λ e. not (is_outer_link s (link_at links e))) (range_with_len 0 (length links)) }) border
-    ∙ ap (λ (x : List ℕ). record { kept = filter (λ e. is_outer_link s' (link_at links e)) (range_with_len 0 (length links)); border = b'; middle = x }) middle
+    ap (λ (x : List ℕ). record {
+      kept = x;
+      border = b;
+      middle = filter
+          (λ e. not (is_outer_link s (link_at links e))) (range_with_len 0 (length links));
+    }) kept
+    ∙ ap (λ (x : List ℕ).
+    record {
+      kept = filter (λ e. is_outer_link s' (link_at links e)) (range_with_len 0 (length links));
+      border = x;
+      middle = filter
+          (λ e. not (is_outer_link s (link_at links e))) (range_with_len 0 (length links));
+    }) border
+    ∙ ap (λ (x : List ℕ).
+    record { kept = filter (λ e. is_outer_link s' (link_at links e)) (range_with_len 0 (length links)); border = b'; middle = x })
+    middle
   where
     at : (l : Link) → is_outer_link s l ≡ is_outer_link s' l
     at l = ap (λ x. x || s l.to) (same l.from) ∙ ap (λ x. s' l.from || x) (same l.to)
 
-    kept : filter (λ e. is_outer_link s (link_at links e)) (range_with_len 0 (length links)) ≡ filter (λ e. is_outer_link s' (link_at links e)) (range_with_len 0 (length links))
+    kept : filter (λ e. is_outer_link s (link_at links e)) (range_with_len 0 (length links)) ≡ filter
+        (λ e. is_outer_link s' (link_at links e)) (range_with_len 0 (length links))
     kept = filter-same _ _ (range_with_len 0 (length links)) (λ e. at (link_at links e))
 
-    middle : filter (λ e. not (is_outer_link s (link_at links e))) (range_with_len 0 (length links)) ≡ filter (λ e. not (is_outer_link s' (link_at links e))) (range_with_len 0 (length links))
+    middle : filter (λ e. not (is_outer_link s (link_at links e))) (range_with_len 0 (length links)) ≡ filter
+        (λ e. not (is_outer_link s' (link_at links e))) (range_with_len 0 (length links))
     middle = filter-same _ _ (range_with_len 0 (length links)) (λ e. ap not (at (link_at links e)))
 
 -- walk-in, by marks of the nodes of the first w frontiers
@@ -66,7 +82,8 @@ pub walk_parts-is : (t : TopologyView) (w : ℕ) (fs : List (Vec ℕ Global)) (o
     → ((v : ℕ) → outer v ≡ is_in_one v (items_of (take w fs))) → border ≡ get_or (items_of fs) w []
     → parts_around t.links outer border ≡ walk_parts t w
 walk_parts-is t w fs outer border same marked is =
-    parts_around-same t.links outer _ border _ (λ v. marked v ∙ ap (is_in_one v) (items_of-take fs (frontiers_of t w) w same)) (is ∙ ap (λ gs. get_or gs w []) same)
+    parts_around-same t.links outer _ border _
+    (λ v. marked v ∙ ap (is_in_one v) (items_of-take fs (frontiers_of t w) w same)) (is ∙ ap (λ gs. get_or gs w []) same)
 
 -- beyond the end of a list nothing is dropped more
 drop-min : {X : Type 0} (s c : ℕ) (xs : List X) → length xs ≡ c → drop (min s c) xs ≡ drop s xs
@@ -86,7 +103,8 @@ core-is fs count c o w same len =
 pub core_of-is : (fs : List (Vec ℕ Global)) (gs : List (List ℕ)) (w o : ℕ) → items_of fs ≡ gs
     → items_of (drop (max (nonempty_count (items_of fs) - o) (w + 1)) (take (nonempty_count (items_of fs)) fs)) ≡ core_of gs w o
 core_of-is fs gs w o same =
-    items_of-drop _ (take (nonempty_count (items_of fs)) gs) (max (nonempty_count (items_of fs) - o) (w + 1)) (items_of-take fs gs (nonempty_count (items_of fs)) same)
+    items_of-drop _ (take (nonempty_count (items_of fs)) gs) (max (nonempty_count (items_of fs) - o) (w + 1))
+    (items_of-take fs gs (nonempty_count (items_of fs)) same)
     ∙ ap (λ hs. drop (max (nonempty_count hs - o) (w + 1)) (take (nonempty_count hs) gs)) same
 
 -- what the code has marked on the way to walk-out; gs are the frontiers
@@ -97,19 +115,26 @@ pub record AreMarked (t : TopologyView) (gs : List (List ℕ)) (w o : ℕ) (oute
   pub first_are : (v : ℕ) → first v ≡ is_in v (get_or gs w [])
 
 -- the border and the parts, by these marks
-pub walk_out_border-is : (t : TopologyView) (gs : List (List ℕ)) (w o n : ℕ) (outer inmost near first : ℕ → Bool) (border : List ℕ) → AreMarked t gs w o outer inmost near first
+pub walk_out_border-is : (t : TopologyView) (gs : List (List ℕ)) (w o n : ℕ) (outer inmost near first : ℕ → Bool) (border : List ℕ)
+    → AreMarked t gs w o outer inmost near first
     → n ≡ length t.nodes → border ≡ filter (λ v. first v || (not (outer v) && near v)) (range_with_len 0 n) → border ≡ walk_out_border t gs w o
 walk_out_border-is t gs w o n outer inmost near first border m size is =
-    is ∙ ap (λ k. filter (λ v. first v || (not (outer v) && near v)) (range_with_len 0 k)) size ∙ filter-same _ _ (range_with_len 0 (length t.nodes)) at
+    is ∙ ap (λ k. filter (λ v. first v || (not (outer v) && near v)) (range_with_len 0 k)) size
+    ∙ filter-same _ _ (range_with_len 0 (length t.nodes)) at
   where
-    at : (v : ℕ) → (first v || (not (outer v) && near v)) ≡ (is_in v (get_or gs w []) || (not (is_outer gs w o v) && is_beside t.links (λ u. is_in_one u (core_of gs w o)) v))
+    at : (v : ℕ) → (first v || (not (outer v) && near v)) ≡
+        (is_in v (get_or gs w []) || (not (is_outer gs w o v) && is_beside t.links (λ u. is_in_one u (core_of gs w o)) v))
     at v =
         ap (λ b. b || (not (outer v) && near v)) (m.first_are v)
         ∙ ap (λ b. is_in v (get_or gs w []) || (not b && near v)) (m.outer_are v)
-        ∙ ap (λ b. is_in v (get_or gs w []) || (not (is_outer gs w o v) && b)) (m.near_are v ∙ is_beside-same t.links inmost (λ u. is_in_one u (core_of gs w o)) v m.inmost_are)
+        ∙ ap (λ b. is_in v (get_or gs w []) || (not (is_outer gs w o v) && b)) (m.near_are v
+        ∙ is_beside-same t.links inmost (λ u. is_in_one u (core_of gs w o)) v m.inmost_are)
 
 -- the core has nodes alone
-pub All-core : (fs core : List (Vec ℕ Global)) (w o n : ℕ) → core ≡ drop (max (nonempty_count (items_of fs) - o) (w + 1)) (take (nonempty_count (items_of fs)) fs)
+pub All-core : (fs core : List (Vec ℕ Global)) (w o n : ℕ)
+    → core ≡ drop (max (nonempty_count (items_of fs) - o) (w + 1)) (take (nonempty_count (items_of fs)) fs)
     → All (HasBelow n) fs → All (HasBelow n) core
 All-core fs core w o n is all =
-    subst (All (HasBelow n)) (sym is) (All-drop (HasBelow n) (max (nonempty_count (items_of fs) - o) (w + 1)) _ (All-take (HasBelow n) (nonempty_count (items_of fs)) fs all))
+    subst (All (HasBelow n)) (sym is)
+    (All-drop (HasBelow n) (max (nonempty_count (items_of fs) - o) (w + 1)) _
+    (All-take (HasBelow n) (nonempty_count (items_of fs)) fs all))

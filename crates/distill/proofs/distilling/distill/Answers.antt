@@ -5,4 +5,5 @@ use Rattle.distill.proofs.distilling.distill.Goals as goal
 
 pub pipes_of-requires-clause-parts : goal.pipes_of-requires-clause-parts
 pipes_of-requires-clause-parts c =
-    subst (AreSound c.args.topology.now) (sym c.in_ok-parts.ensures) (parts_are_sound c.args.topology.now c.args.mode (omega (arith, ap length c.nodes.ensures.lent, c.nodes.ensures.few)))
+    subst (AreSound c.args.topology.now) (sym c.in_ok-parts.ensures)
+    (parts_are_sound c.args.topology.now c.args.mode (omega (arith, ap length c.nodes.ensures.lent, c.nodes.ensures.few)))

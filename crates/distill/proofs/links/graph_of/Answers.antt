@@ -8,4 +8,5 @@ use Rattle.distill.proofs.links.graph_of.Goals as goal
 pub new-requires-clause-arcs : goal.new-requires-clause-arcs
 new-requires-clause-arcs c =
     subst (All (IsArcAmong c.args.nodes)) (sym c.loop-link.invariant)
-    (arcs_are_among c.args.nodes (take c.loop-link.link-index c.args.links.now) (All-take (IsLink c.args.nodes) c.loop-link.link-index c.args.links.now c.requires.links))
+    (arcs_are_among c.args.nodes (take c.loop-link.link-index c.args.links.now)
+    (All-take (IsLink c.args.nodes) c.loop-link.link-index c.args.links.now c.requires.links))

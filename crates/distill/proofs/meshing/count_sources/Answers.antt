@@ -9,8 +9,12 @@ loop-source-init c = record { counted = no_source_count c.args.routes.now.graph.
 
 pub loop-source-preserved : goal.loop-source-preserved
 loop-source-preserved c =
-    let next = source_count_next c.args.routes.now.graph.arcs c.args.sources.now c.args.target c.loop-source.source-index _ c.loop-source.count c.is_source.result c.requires.distinct c.loop-source-test.true c.loop-source.invariant.counted c.is_source.ensures in
+    let next = source_count_next c.args.routes.now.graph.arcs c.args.sources.now c.args.target c.loop-source.source-index _
+    c.loop-source.count c.is_source.result c.requires.distinct c.loop-source-test.true c.loop-source.invariant.counted
+    c.is_source.ensures in
     record {
-      counted = subst (λ (n : ℕ). HasSourceCount c.args.routes.now.graph.arcs (take (c.loop-source.source-index + 1) c.args.sources.now) c.args.target (c.loop-source.count + n)) (sym c.one_if-count.ensures) next;
+      counted = subst (λ (n : ℕ). HasSourceCount c.args.routes.now.graph.arcs
+          (take (c.loop-source.source-index + 1) c.args.sources.now) c.args.target (c.loop-source.count + n))
+          (sym c.one_if-count.ensures) next;
       few = omega (arith, c.loop-source.invariant.few, c.one_if-count.ensures, one_or_none c.is_source.result);
     }

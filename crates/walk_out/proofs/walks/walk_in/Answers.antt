@@ -15,8 +15,10 @@ slice_bounds-add_all-end c =
 pub add_all-requires : goal.add_all-requires
 add_all-requires c =
     let r = reads c.args.topology.now c.args.w c.args.frontiers.now c.requires.frontiers in
-    let n : length c.in_ok-outer.outer ≡ length c.args.topology.now.nodes = omega (arith, c.in_ok-outer.ensures.size, ap length c.nodes.ensures.lent) in
-    All-take (HasBelow (length c.in_ok-outer.outer)) c.args.w c.args.frontiers.now (subst (λ m. All (HasBelow m) c.args.frontiers.now) (sym n) r.below)
+    let n : length c.in_ok-outer.outer ≡ length c.args.topology.now.nodes =
+    omega (arith, c.in_ok-outer.ensures.size, ap length c.nodes.ensures.lent) in
+    All-take (HasBelow (length c.in_ok-outer.outer)) c.args.w c.args.frontiers.now
+    (subst (λ m. All (HasBelow m) c.args.frontiers.now) (sym n) r.below)
 
 pub bounds-frontiers-walked : goal.bounds-frontiers-walked
 bounds-frontiers-walked c =
@@ -27,6 +29,11 @@ pub returns : goal.returns
 returns c =
     let r = reads c.args.topology.now c.args.w c.args.frontiers.now c.requires.frontiers in
     let within : c.args.w < length c.args.frontiers.now = omega (arith, r.count) in
-    let border = c.in_ok-border.ensures.items ∙ c.deref.ensures.value ∙ last-is c.args.frontiers.now c.args.w c.index-frontiers-walked.result within c.index-frontiers-walked.is in
-    IfOk-weaker c.parts_around.result _ _ (λ parts is. is ∙ walk_parts-is c.args.topology.now c.args.w c.args.frontiers.now (has c.add_all.new.self) c.in_ok-border.border.items c.requires.frontiers
-    (λ v. c.add_all.ensures.added v ∙ ap (λ b. b || is_in_one v (items_of (take c.args.w c.args.frontiers.now))) (c.in_ok-outer.ensures.empty v)) border) c.parts_around.ensures
+    let border = c.in_ok-border.ensures.items ∙ c.deref.ensures.value
+    ∙ last-is c.args.frontiers.now c.args.w c.index-frontiers-walked.result within c.index-frontiers-walked.is in
+    IfOk-weaker c.parts_around.result _ _
+    (λ parts is. is ∙ walk_parts-is c.args.topology.now c.args.w c.args.frontiers.now
+    (has c.add_all.new.self) c.in_ok-border.border.items c.requires.frontiers
+    (λ v. c.add_all.ensures.added v
+    ∙ ap (λ b. b || is_in_one v (items_of (take c.args.w c.args.frontiers.now))) (c.in_ok-outer.ensures.empty v)) border)
+    c.parts_around.ensures
