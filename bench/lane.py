@@ -1,7 +1,7 @@
 #!/usr/bin/env python3
 """Times a million items between two threads: a lane (crates/gate_box), and a channel of one place of Rust's own library.
 
-usage: bench/lane.py      needs `rt` and `rustc`; a minute, most of it to prove the driver
+usage: bench/lane.py      needs `rt` and `rustc`; some minutes, most of them to prove the driver
 
 The channel is std's `sync_channel(1)`, which is crossbeam's. Its threads sleep and are woken; the lane's calls never wait, so its
 two threads try again, by the kit's `Backoff`. Each line is one round: items a second.
