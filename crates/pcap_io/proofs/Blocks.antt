@@ -20,7 +20,7 @@ AddsBuffered-whole p q r block piece (Ok done) added whole = record {
 }
 AddsBuffered-whole p q r block piece (Err fault) added whole = AddsWhole-then p q r block piece (Err fault) added whole
 
--- a text of two parts: the first but for what stands in the block, and then the second behind the block
+-- a text of two parts: the first but for what stands in the block, and then the second after the block
 pub AddsBuffered-parts : (p q r : Part) (text first second block left : List ℕ) (result : Result (Unit {0}) WriteFault)
     → text ≡ first ++ second
     → Buffers first p q block → AddsBuffered (block ++ second) q r left result → AddsBuffered text p r left result
@@ -37,7 +37,7 @@ AddsBuffered-parts p q r text first second block left (Err fault) text_is begun 
     subst (λ (bytes : List ℕ). AddsWhole bytes p r (Err fault)) (sym regrouped)
     (AddsWhole-then p q r begun.front (block ++ second) (Err fault) begun.added ended)
 
--- a text of three parts: the first but for what stands in the block, and then a stop within the second behind the block
+-- a text of three parts: the first but for what stands in the block, and then a stop within the second after the block
 pub AddsBuffered-stopped : (p q r : Part) (text first second third block : List ℕ) (fault other : WriteFault)
     → text ≡ first ++ (second ++ third)
     → Buffers first p q block → AddsWhole (block ++ second) q r (Err fault) → AddsWhole text p r (Err other)
@@ -47,7 +47,7 @@ AddsBuffered-stopped p q r text first second third block fault other text_is beg
     subst (λ (bytes : List ℕ). AddsFront bytes q r) (append_assoc block second third) longer in
     AddsBuffered-parts p q r text first (second ++ third) block [] (Err fault) text_is begun (regrouped, stopped.1)
 
--- one more text of a list behind those before it
+-- one more text of a list after the texts before it
 pub flat_map-more : {X : Type 0} (f : X → List ℕ) (xs : List X) (i : ℕ) (x : X) → i < length xs → x ≡ get_or xs i x
     → flat_map f (take (i + 1) xs) ≡ flat_map f (take i xs) ++ f x
 flat_map-more {X = X} f xs i x lt is =
@@ -55,7 +55,7 @@ flat_map-more {X = X} f xs i x lt is =
     ap (flat_map f) more ∙ flat_map-append f (take i xs) (x ∷ [])
     ∙ ap (λ (last : List ℕ). flat_map f (take i xs) ++ last) (flat_map-cons f x [] ∙ append-nil (f x))
 
--- a list's texts are those before an index, the one there, and those behind it
+-- a list's texts are those before an index, the one there, and those after it
 pub flat_map-at : {X : Type 0} (f : X → List ℕ) (xs : List X) (i : ℕ) (x : X) → i < length xs → x ≡ get_or xs i x
     → flat_map f xs ≡ flat_map f (take i xs) ++ (f x ++ flat_map f (drop (i + 1) xs))
 flat_map-at {X = X} f xs i x lt is =

@@ -30,7 +30,7 @@ one_reading text trace other p q =
     let link_type = one_header p.form q.form trace.link_type other.link_type text p.header q.header in
     ap (λ (n : ℕ). capture n trace.packets) link_type ∙ ap (capture other.link_type) packets
 
--- a text that is read has no fault behind its header
+-- a text that is read has no fault after its header
 no_fault_behind : (text : List ℕ) (trace : Capture) (fault : PcapFault) → Pcap text trace → HasFaultBehindHeader fault text → ⊥
 no_fault_behind text trace fault p has =
     let form = one_form p.form has.form text p.header.magic has.header.magic in
@@ -68,7 +68,7 @@ is_known-false n other =
     let four : n ≢ LINK_TYPE_IPV4 = λ e. other (inr (inr e)) in
     grind (arith, nat_tests)
 
--- what is wrong with a header behind its magic
+-- what is wrong with a header after its magic
 abbrev header_fault : Form → List ℕ → Option PcapFault
 header_fault form text =
     if nat_lt (length text) 24 then Some ShortHeader
@@ -97,7 +97,7 @@ header_fault-none form text link_type h =
     let two : (half form.order 4 text == 2) ≡ true = rw h.version refl in
     rw (long, two, known) refl
 
--- behind a magic, the header has this fault, or it has none and a record has it
+-- after a magic, the header has this fault, or it has none and a record has it
 abbrev FailsBehindMagic : Form → List ℕ → PcapFault → Type 0
 FailsBehindMagic form text fault =
     (header_fault form text ≡ Some fault) ⊎ ((header_fault form text ≡ None) × HasRecordFault form fault (drop 24 text))
@@ -145,7 +145,7 @@ one_place text fault other (inr p) (inr q) =
 pub one_fault : (text : List ℕ) (fault other : PcapFault) → PcapFirst text fault → PcapFirst text other → fault ≡ other
 one_fault text fault other p q = one_place text fault other (fails_at text fault p) (fails_at text other q)
 
--- ---- a fault behind the header is the first of the text
+-- ---- a fault after the header is the first of the text
 
 not_pcap_of_record : (form : Form) (n : ℕ) (text : List ℕ) → record_fault form n text ≡ Some NotPcap → ⊥
 not_pcap_of_record form n text told = grind (arith, nat_tests)

@@ -68,7 +68,7 @@ impl Block {
         self.filled = 0;
     }
 
-    /// Puts a piece behind the bytes of the block, which are handed over first where the two don't fit together.
+    /// Puts a piece after the bytes of the block, which are handed over first where the two don't fit together.
     pub fn put<H: Host>(&mut self, host: &mut H, role: Role, piece: &[u8]) -> Result<(), WriteFault>
         requires active { (H.part host.old role).active ≡ true }
         ensures own { AddsBuffered (self.old ++ piece.now) (H.part host.old role) (H.part host.new role) self.new result }

@@ -37,7 +37,7 @@ abbrev pub enhanced_time : List Interface → ByteOrder → List ℕ → ℕ
 enhanced_time interfaces order text =
     time_in_ns (word order 12 text) (word order 16 text) (interface_at interfaces (word order 8 text)).per_second
 
--- what is wrong with the enhanced packet of this block, behind so many packets and these interfaces of its section
+-- what is wrong with the enhanced packet of this block, after so many packets and these interfaces of its section
 abbrev pub enhanced_fault : ℕ → ℕ → List Interface → ByteOrder → ℕ → List ℕ → Option NgFault
 enhanced_fault place count interfaces order len text =
     if count == PACKETS_MAX then Some TooMany

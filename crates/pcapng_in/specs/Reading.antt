@@ -1,4 +1,4 @@
--- What a pcapng file says (`text` is its bytes): whole blocks, one behind the other, and nothing else.
+-- What a pcapng file says (`text` is its bytes): whole blocks, one after the other, and nothing else.
 use Rattle.std.specs.Prelude.{◌≡◌, ◌≢◌, ℕ, zero, suc, ◌+◌, ◌⊎◌, List, [], drop, Option, Some, None}
 use Rattle.pcap_io.specs.declared.form.ByteOrder.{ByteOrder}
 use Rattle.pcap_io.specs.Capture.{Capture}
@@ -21,7 +21,7 @@ block_fault state text =
     or_then (shape_fault state.place state.order text)
     (content_fault (order_of_block state.order text) (kind_of state.order text) (length_here state text) text state)
 
--- what the file has said behind that block
+-- what the file has said after that block
 abbrev pub after_block : NgState → List ℕ → NgState
 after_block state text =
     record (with_content (order_of_block state.order text) (kind_of state.order text) (length_here state text) text state) {

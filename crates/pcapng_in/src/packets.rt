@@ -43,7 +43,7 @@ fn padded(len: u32) -> u64
     u64::from(len).div_ceil(4) * 4
 }
 
-/// Reads the enhanced packet block of so many bytes that opens the text, behind so many packets and these interfaces of its section.
+/// Reads the enhanced packet block of so many bytes that opens the text, after so many packets and these interfaces of its section.
 pub fn read_enhanced(
     place: u32,
     count: usize,

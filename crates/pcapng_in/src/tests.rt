@@ -237,7 +237,7 @@ fn a_simple_packet_takes_the_time_before_and_the_snaplen(rt: HostRuntime) -> Res
     assert_eq!(rt; packets[0].time_ns, 0);
     assert_eq!(rt; packets[0].bytes.as_slice(), [1, 2, 3, 4, 5].as_slice());
 
-    // behind a packet, and at a snaplen of 3
+    // after a packet, and at a snaplen of 3
     let mut text = joined(
         rt.alloc(),
         &[
@@ -330,7 +330,7 @@ const TIMES: [([u8; 16], usize, u64); 10] = [
         1_349_245_965,
     ),
     ([9, 0, 1, 0, 191, 0, 0, 0, 0, 0, 0, 0, 0, 0, 0, 0], 8, 0),
-    // another option before, and a second resolution behind
+    // another option before, and a second resolution after
     (
         [4, 0, 2, 0, 1, 2, 0, 0, 9, 0, 1, 0, 9, 0, 0, 0],
         16,
@@ -372,7 +372,7 @@ const FAULTY_OPTIONS: [([u8; 16], usize, NgFault); 8] = [
         8,
         NgFault::Options(28),
     ),
-    // an option that runs past the body is found behind a bad resolution
+    // an option that runs past the body is found after a bad resolution
     (
         [9, 0, 2, 0, 9, 0, 0, 0, 5, 0, 1, 0, 0, 0, 0, 0],
         12,

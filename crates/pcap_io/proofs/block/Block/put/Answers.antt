@@ -4,7 +4,7 @@ use Rattle.pcap_io.proofs.Blocks.{AddsBuffered-whole}
 use Rattle.pcap_io.proofs.block.Block.put.Goals as goal
 use Rattle.pcap_io.proofs.block.Block.put.Goals.{then-piece-len+in_ok-flush, else-piece-len}
 
--- what is longer than a block doesn't fit behind its bytes, so these were handed over
+-- what is longer than a block doesn't fit after its bytes, so these were handed over
 pub returns-then-piece-gt-BLOCK_BYTES-clause-own : goal.returns-then-piece-gt-BLOCK_BYTES-clause-own
 returns-then-piece-gt-BLOCK_BYTES-clause-own g c =
     elim c.if-piece-len.branch [
