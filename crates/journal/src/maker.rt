@@ -135,8 +135,9 @@ fn first_dues(alloc: Global, setup: &Setup) -> Result<DueVisits, NoMemory>
     ensures held { IfOk result (IsHeld setup.now []) }
     ensures setup { IsSetup setup.now }
 {
-    let mut firsts = Vec::new(alloc);
-    for index in 0..setup.parts().packets.len() as u32 {
+    let packets = setup.parts().packets.len();
+    let mut firsts = Vec::with_capacity(alloc, packets)?;
+    for index in 0..packets as u32 {
         enter(setup, &mut firsts, index)?;
     }
     Ok(DueVisits::of_firsts(alloc, firsts))

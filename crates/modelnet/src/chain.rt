@@ -25,7 +25,7 @@ pub fn chain<H: Host>(
     ensures { Answered (chain_command limits.now order.now) (H.part host.old) (H.part host.new) (status_of result) }
 {
     let trace = read_input(alloc, host, Role::Trace, order.trace.as_str(), limits.trace)?;
-    let texts = chain_texts(alloc, order, trace.as_slice())?;
+    let texts = chain_texts(alloc, order, trace)?;
     write_trace(host, Role::Out, order.out.as_str(), &texts.out)?;
     write_output(
         host,

@@ -91,7 +91,7 @@ fn packet_plans(
     requires base { All (λ p. base_ns ≤ p.time_ns) packets.now }
     ensures { IfOk result (λ plans. plans.items ≡ plans_of base_ns tick_ns packets.now) }
 {
-    let mut plans = Vec::new(alloc);
+    let mut plans = Vec::with_capacity(alloc, packets.len())?;
     for (number, packet) in packets.iter().enumerate() {
         plans.push(PacketPlan {
             number: number as u32,

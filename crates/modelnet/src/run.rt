@@ -1,15 +1,18 @@
 ghost use Rattle.std.specs.Prelude.{◌≡◌, ◌≤◌, length, map, All, IfOk, IfErr};
 ghost use Rattle.mn_base.specs.Refused.{IfFault};
 ghost use Rattle.pcap_io.specs.Capture.{IsTrace, IsRecordTime};
+ghost use Rattle.pcap_io.specs.Reading.{Pcap};
 ghost use Rattle.pcap_io.specs.Writing.{pcap_text};
 ghost use Rattle.pcap_io.specs.Faults.{PcapFirst};
+ghost use Rattle.journal.specs.Journal.{journal_of};
+ghost use Rattle.settle.specs.IsOutcome.{IsOutcome};
 ghost use Rattle.modelnet.specs.Order.{IsOrder};
 ghost use Rattle.modelnet.specs.Run.{IsChainRun, SaysRun};
 
 use crate::chain_setup::chain_setup;
 use crate::order::ChainOrder;
-use journal::fates;
 use journal::laws::outputs_fit;
+use journal::{Setup, fates};
 use mn_base::limits::TRACE_BYTES_MAX;
 use mn_base::{Bytes, NoMemory, Refusal};
 use pcap_io::{Packet, PcapFault, Trace, read_pcap};
@@ -30,20 +33,30 @@ pub struct Texts {
 pub fn chain_texts(
     alloc: Global,
     order: &ChainOrder,
-    text: &[u8],
+    text: Bytes,
 ) -> Result<Texts, Refusal<PcapFault>>
     requires order { IsOrder order.now }
-    requires few { length text.now ≤ TRACE_BYTES_MAX }
-    ensures run { IfOk result (λ texts. SaysRun order.now text.now (pcap_text texts.out) texts.report) }
-    ensures fault { IfErr result (λ refusal. IfFault refusal (PcapFirst text.now)) }
+    requires few { length text ≤ TRACE_BYTES_MAX }
+    ensures run { IfOk result (λ texts. SaysRun order.now text (pcap_text texts.out) texts.report) }
+    ensures fault { IfErr result (λ refusal. IfFault refusal (PcapFirst text)) }
 {
-    let trace = read_pcap(alloc, text)?;
+    let trace = read_trace(alloc, text)?;
     // A read of the trace, so that the proof knows what its type keeps.
     let _kept = trace.link_type();
     let Ok(texts) = run_chain(alloc, order, trace) else {
         return Err(Refusal::NoMemory);
     };
     Ok(texts)
+}
+
+/// The trace that a text says. The text is given back as soon as it is read.
+fn read_trace(alloc: Global, text: Bytes) -> Result<Trace, Refusal<PcapFault>>
+    requires { length text ≤ TRACE_BYTES_MAX }
+    ensures found { IfOk result (λ trace. Pcap text trace) }
+    ensures fault { IfErr result (λ refusal. IfFault refusal (PcapFirst text)) }
+    ensures times { IfOk result (λ trace. All (λ packet. IsRecordTime packet.time_ns) trace.packets) }
+{
+    read_pcap(alloc, text.as_slice())
 }
 
 /// Runs a chain on a trace: the fates of its packets, and the texts of what came of them.
@@ -55,13 +68,21 @@ fn run_chain(alloc: Global, order: &ChainOrder, trace: Trace) -> Result<Texts, N
 {
     let setup = chain_setup(alloc, order, &trace)?;
     outputs_fit(&setup);
-    let fates = fates(alloc, &setup)?;
-    let bytes = packet_bytes(alloc, trace.into_packets())?;
-    let outcome = gather(alloc, &setup, &fates, bytes)?;
+    let outcome = chain_outcome(alloc, &setup, trace.into_packets())?;
     let report = print_report(alloc, &outcome, &[])?;
     let Outcome { leaving, .. } = outcome;
     let out = out_trace(alloc, &setup, leaving)?;
     Ok(Texts { out, report })
+}
+
+/// What comes of these packets, whose bytes are moved.
+fn chain_outcome(alloc: Global, setup: &Setup, packets: Vec<Packet>) -> Result<Outcome, NoMemory>
+    requires { length packets.items ≡ length setup.now.packets }
+    ensures { IfOk result (IsOutcome setup.now (journal_of setup.now) (map (λ p. p.bytes) packets.items)) }
+{
+    let bytes = packet_bytes(alloc, packets)?;
+    let fates = fates(alloc, setup)?;
+    gather(alloc, setup, &fates, bytes)
 }
 
 /// The bytes of each packet, in order.

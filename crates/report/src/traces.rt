@@ -20,7 +20,7 @@ pub fn out_trace(alloc: Global, setup: &Setup, leaving: Vec<Leaving>) -> Result<
     ensures { IfOk result (λ trace. trace ≡ trace_of setup.now leaving.items) }
 {
     let parts = setup.parts();
-    let mut packets = Vec::new(alloc);
+    let mut packets = Vec::with_capacity(alloc, leaving.len())?;
     for left in leaving {
         let original = original_len(setup, left.packet);
         packets.push(Packet {

@@ -16,7 +16,7 @@ pub returns-in_err-texts : goal.returns-in_err-texts
 returns-in_err-texts g c =
     let is : c.from_residual-in_err-texts.result ≡ Err (trace_refusal c.in_err-texts.field-0.0) = search rules in
     rw is (trace_refused c.args.limits.now c.args.order.now (g.H.Host.part c.args.host.now)
-    (g.H.Host.part c.read_input.new.host) c.in_ok-trace.trace c.as_slice.result.now
+    (g.H.Host.part c.read_input.new.host) c.in_ok-trace.trace c.in_ok-trace.trace
     c.in_err-texts.field-0.0 (trace_refusal c.in_err-texts.field-0.0)
     (record {
       name = c.as_str.result.now;
@@ -24,7 +24,7 @@ returns-in_err-texts g c =
       own = c.in_ok-trace.ensures.own;
       others = c.in_ok-trace.ensures.others;
     })
-    (c.as_slice.ensures.lent) c.in_err-texts.ensures.fault refl)
+    refl c.in_err-texts.ensures.fault refl)
 
 pub returns-in_err-write_trace : goal.returns-in_err-write_trace
 returns-in_err-write_trace g c =
@@ -39,8 +39,8 @@ returns-in_err-write_trace g c =
         own = c.in_ok-trace.ensures.own;
         others = c.in_ok-trace.ensures.others;
       };
-      text = c.as_slice.result.now;
-      same = c.as_slice.ensures.lent;
+      text = c.in_ok-trace.trace;
+      same = refl;
       says = c.in_ok-texts.ensures.run;
     } in
     rw is (out_stops c.args.limits.now c.args.order.now c.in_ok-trace.trace
@@ -61,8 +61,8 @@ returns-in_err-write_output g c =
         own = c.in_ok-trace.ensures.own;
         others = c.in_ok-trace.ensures.others;
       };
-      text = c.as_slice.result.now;
-      same = c.as_slice.ensures.lent;
+      text = c.in_ok-trace.trace;
+      same = refl;
       says = c.in_ok-texts.ensures.run;
     } in
     let out_written = g.H.Host.part c.write_trace.new.host in
@@ -76,8 +76,8 @@ returns-in_err-write_output g c =
     } in
     rw is (report_stops c.args.limits.now c.args.order.now c.in_ok-trace.trace
     (pcap_text texts.out) texts.report c.in_err-write_output.field-0.0
-    c.as_str-3.result.now c.as_slice-2.result.now old read out_written (g.H.Host.part c.write_output.new.host) done
-    (c.as_str-3.ensures.lent ∙ ap (λ (o : ChainView). o.report) c.order.view_is) c.as_slice-2.ensures.lent
+    c.as_str-3.result.now c.as_slice.result.now old read out_written (g.H.Host.part c.write_output.new.host) done
+    (c.as_str-3.ensures.lent ∙ ap (λ (o : ChainView). o.report) c.order.view_is) c.as_slice.ensures.lent
     c.in_err-write_output.ensures.own c.in_err-write_output.ensures.others)
 
 pub returns : goal.returns
@@ -92,8 +92,8 @@ returns g c =
         own = c.in_ok-trace.ensures.own;
         others = c.in_ok-trace.ensures.others;
       };
-      text = c.as_slice.result.now;
-      same = c.as_slice.ensures.lent;
+      text = c.in_ok-trace.trace;
+      same = refl;
       says = c.in_ok-texts.ensures.run;
     } in
     let out_written = g.H.Host.part c.write_trace.new.host in
@@ -106,6 +106,6 @@ returns g c =
       others = c.in_ok-write_trace.ensures.others;
     } in
     all_done c.args.limits.now c.args.order.now c.in_ok-trace.trace (pcap_text texts.out) texts.report
-    c.as_str-3.result.now c.as_slice-2.result.now old read out_written (g.H.Host.part c.write_output.new.host) done
-    (c.as_str-3.ensures.lent ∙ ap (λ (o : ChainView). o.report) c.order.view_is) c.as_slice-2.ensures.lent
+    c.as_str-3.result.now c.as_slice.result.now old read out_written (g.H.Host.part c.write_output.new.host) done
+    (c.as_str-3.ensures.lent ∙ ap (λ (o : ChainView). o.report) c.order.view_is) c.as_slice.ensures.lent
     c.in_ok-write_output.ensures.own c.in_ok-write_output.ensures.others
