@@ -25,7 +25,8 @@ pub above-above : (x now : ℕ) (xs : List ℕ) → now ≤ x → above x (above
 above-above x now [] low = refl
 above-above x now (y ∷ ys) low = go (nat_lt now y) refl (above-above x now ys low)
   where
-    go : (b : Bool) → nat_lt now y ≡ b → above x (above now ys) ≡ above x ys → above x (cond b (y ∷ above now ys) (above now ys)) ≡ above x (y ∷ ys)
+    go : (b : Bool) → nat_lt now y ≡ b → above x (above now ys) ≡ above x ys
+        → above x (cond b (y ∷ above now ys) (above now ys)) ≡ above x (y ∷ ys)
     go true is rest = ap (λ zs. cond (nat_lt x y) (y ∷ zs) zs) rest
     go false is rest =
         let past : y ≤ now = ltb-false now y is in

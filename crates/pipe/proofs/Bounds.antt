@@ -39,7 +39,8 @@ bounded-stays {m} {tick} b d = record {
   tick_length = b.tick_length;
   late = subst (All (λ time. tick * m.tick_ns < time)) (sym d.kept_is) (all-above (tick * m.tick_ns) m.kept);
   rising = subst IsNonDecreasing (sym d.kept_is) (IsNonDecreasingBy-filter (λ x. x) (λ time. nat_lt (tick * m.tick_ns) time) m.kept b.rising);
-  behind = subst (All (λ time. time ≤ m.last_finish)) (sym d.kept_is) (All-filter (λ time. nat_lt (tick * m.tick_ns) time) (λ time. time ≤ m.last_finish) m.kept b.behind);
+  behind = subst (All (λ time. time ≤ m.last_finish)) (sym d.kept_is) (All-filter (λ time. nat_lt (tick * m.tick_ns) time)
+      (λ time. time ≤ m.last_finish) m.kept b.behind);
   few = rw d.kept_is (omega (arith, length-above (tick * m.tick_ns) m.kept, b.few));
   backlog = λ x after.
       let before : m.last_tick * m.tick_ns ≤ tick * m.tick_ns = mul-le-mul_right m.tick_ns d.order in
@@ -53,7 +54,8 @@ module _ {m : PipeView} {tick len finish : ℕ} {params : PipeParams} {kept push
   longest =
       let least = transmission-mono params.bps len params.bandwidth.0 short in
       let among = greatest-last (λ (q : PipeParams). transmission q.bps PACKET_BYTES_MAX) tick m.first m.changes in
-      let same : transmission params.bps PACKET_BYTES_MAX ≡ transmission (params_at m tick).bps PACKET_BYTES_MAX = ap (λ (q : PipeParams). transmission q.bps PACKET_BYTES_MAX) p.drops.params_is in
+      let same : transmission params.bps PACKET_BYTES_MAX ≡ transmission (params_at m tick).bps PACKET_BYTES_MAX = ap (λ
+      (q : PipeParams). transmission q.bps PACKET_BYTES_MAX) p.drops.params_is in
       omega (arith, least, among, same)
 
   fewer : length kept < greatest_queue m
@@ -71,9 +73,11 @@ module _ {m : PipeView} {tick len finish : ℕ} {params : PipeParams} {kept push
     rising = subst IsNonDecreasing (sym p.pushed_is) (rising (nat_lt (tick * m.tick_ns) finish));
     behind = subst (All (λ time. time ≤ finish)) (sym p.pushed_is)
         (All-append (λ time. time ≤ finish) kept (above (tick * m.tick_ns) (finish ∷ [])) before
-        (All-filter (λ time. nat_lt (tick * m.tick_ns) time) (λ time. time ≤ finish) (finish ∷ []) (All-cons (λ time. time ≤ finish) finish [] (omega arith) (All-nil (λ time. time ≤ finish)))));
+        (All-filter (λ time. nat_lt (tick * m.tick_ns) time) (λ time. time ≤ finish) (finish ∷ []) (All-cons
+        (λ time. time ≤ finish) finish [] (omega arith) (All-nil (λ time. time ≤ finish)))));
     few = rw p.pushed_is (omega (arith, fewer, length-append kept (above (tick * m.tick_ns) (finish ∷ [])), length-above (tick * m.tick_ns) (finish ∷ [])));
-    backlog = λ x after. rw (p.pushed_is, length-above-push x (tick * m.tick_ns) kept finish after) (backlog x after (stays.backlog x after) (nat_lt x finish) refl);
+    backlog = λ x after. rw (p.pushed_is, length-above-push x (tick * m.tick_ns) kept finish after) (backlog x after (stays.backlog x after)
+        (nat_lt x finish) refl);
   }
     where
       stays : IsInBounds (stayed m tick kept)
@@ -86,7 +90,8 @@ module _ {m : PipeView} {tick len finish : ℕ} {params : PipeParams} {kept push
       rising true = IsNonDecreasingBy-push (λ x. x) kept finish stays.rising (λ d some. before (length kept - 1) d (omega arith))
       rising false = rw append-nil stays.rising
 
-      backlog : (x : ℕ) → tick * m.tick_ns ≤ x → m.last_finish ≤ x + length (above x kept) * greatest_transmission m → (b : Bool) → nat_lt x finish ≡ b
+      backlog : (x : ℕ) → tick * m.tick_ns ≤ x → m.last_finish ≤ x + length (above x kept) * greatest_transmission m → (b : Bool)
+          → nat_lt x finish ≡ b
           → finish ≤ x + (length (above x kept) + cond b 1 0) * greatest_transmission m
       backlog x after was true is = omega (arith, longest, p.finish_is)
       backlog x after was false is = omega (arith, ltb-false x finish is)

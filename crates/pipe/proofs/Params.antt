@@ -56,7 +56,8 @@ all-ahead tick changes n d rising next k e within =
         omega arith
 
 -- the change at an index counts at each tick from its own on
-pub last_params-reached : (tick : ℕ) (first : PipeParams) (changes : List (ℕ × PipeParams)) (n : ℕ) (d e : ℕ × PipeParams) → n < length changes
+pub last_params-reached : (tick : ℕ) (first : PipeParams) (changes : List (ℕ × PipeParams)) (n : ℕ) (d e : ℕ × PipeParams)
+    → n < length changes
     → (get_or changes n d).0 ≤ tick → last_params tick (get_or changes n e).1 (drop (n + 1) changes) ≡ last_params tick first (drop n changes)
 last_params-reached tick first changes n d e within early =
     let here : (get_or changes n e).0 ≤ tick = subst (λ (c : ℕ × PipeParams). c.0 ≤ tick) (get_or_default changes n d e within) early in

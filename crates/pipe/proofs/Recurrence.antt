@@ -35,9 +35,11 @@ module _ (at : ℕ → PipeParams) (T : ℕ) where
       go (has_passed w.step) (finish_of at T last w.tick w.len) (λ before. finishes-push before h v)
     where
       go : (b : Bool) (f : ℕ)
-          → ((before : ℕ) → finishes at T before (h ++ v ∷ []) ≡ finishes at T before h ++ (if has_passed v.step then finish_of at T (last_finish at T before h) v.tick v.len ∷ [] else []))
+          → ((before : ℕ) → finishes at T before (h ++ v ∷ []) ≡ finishes at T before h ++ (if has_passed v.step then finish_of at T
+          (last_finish at T before h) v.tick v.len ∷ [] else []))
           → (if b then f ∷ finishes at T f (h ++ v ∷ []) else finishes at T last (h ++ v ∷ []))
-          ≡ (if b then f ∷ finishes at T f h else finishes at T last h) ++ (if has_passed v.step then finish_of at T (last_finish at T (if b then f else last) h) v.tick v.len ∷ [] else [])
+          ≡ (if b then f ∷ finishes at T f h else finishes at T last h) ++ (if has_passed v.step then finish_of at T (last_finish at T
+          (if b then f else last) h) v.tick v.len ∷ [] else [])
       go true f rest = ap (λ times. f ∷ times) (rest f)
       go false f rest = rest last
 
@@ -115,7 +117,8 @@ stands-stays {m} {tick} d h len step dropped s =
     }
 
 -- where it passes, the pipe remembers its finish, too
-stands-passes : {m : PipeView} {tick len finish : ℕ} {params : PipeParams} {kept pushed : List ℕ} → Passes m tick len params kept finish pushed
+stands-passes : {m : PipeView} {tick len finish : ℕ} {params : PipeParams} {kept pushed : List ℕ}
+    → Passes m tick len params kept finish pushed
     → (h : List PastVisit) (step : Step) → has_passed step ≡ true → StandsFor m h
     → StandsFor (passed m tick finish pushed) (h ++ record { tick = tick; len = len; step = step } ∷ [])
 stands-passes {m} {tick} {len} {finish} {params} {kept} p h step through s =
@@ -135,7 +138,8 @@ stands-passes {m} {tick} {len} {finish} {params} {kept} p h step through s =
     }
 
 -- the three steps, by what the pipe keeps
-pub step_at-lost : (at : ℕ → PipeParams) (T : ℕ) (h : List PastVisit) (tick len : ℕ) (lost : Bool) → lost ≡ true → Lost ≡ step_at at T h tick len lost
+pub step_at-lost : (at : ℕ → PipeParams) (T : ℕ) (h : List PastVisit) (tick len : ℕ) (lost : Bool) → lost ≡ true
+    → Lost ≡ step_at at T h tick len lost
 step_at-lost at T h tick len lost is = rw is
 
 pub step_at-full : {m : PipeView} {tick : ℕ} {params : PipeParams} {kept : List ℕ} → Drops m tick params kept
@@ -146,7 +150,8 @@ step_at-full {m} {tick} {params} {kept} d h len lost is full s =
     let limit : params.queue ≡ (params_at m tick).queue = ap (λ (p : PipeParams). p.queue) d.params_is in
     rw (is, le-leb (params_at m tick).queue (waiting (params_at m) m.tick_ns h tick) (omega arith))
 
-pub step_at-pass : {m : PipeView} {tick len finish : ℕ} {params : PipeParams} {kept pushed : List ℕ} → Passes m tick len params kept finish pushed
+pub step_at-pass : {m : PipeView} {tick len finish : ℕ} {params : PipeParams} {kept pushed : List ℕ}
+    → Passes m tick len params kept finish pushed
     → (h : List PastVisit) (lost : Bool) → lost ≡ false → length kept < params.queue → StandsFor m h
     → Pass (div_ceil finish m.tick_ns + params.latency_ticks) ≡ step_at (params_at m) m.tick_ns h tick len lost
 step_at-pass {m} {tick} {len} {finish} {params} {kept} p h lost is room s =
@@ -171,7 +176,8 @@ visited-full {m} {tick} d h len lost is full s =
     stands-stays d h len (step_at (params_at m) m.tick_ns h tick len lost)
     (ap has_passed (sym (step_at-full d h len lost is full s))) s
 
-pub visited-pass : {m : PipeView} {tick len finish : ℕ} {params : PipeParams} {kept pushed : List ℕ} → Passes m tick len params kept finish pushed
+pub visited-pass : {m : PipeView} {tick len finish : ℕ} {params : PipeParams} {kept pushed : List ℕ}
+    → Passes m tick len params kept finish pushed
     → (h : List PastVisit) (lost : Bool) → lost ≡ false → length kept < params.queue → StandsFor m h
     → StandsFor (passed m tick finish pushed) (visited (params_at m) m.tick_ns h tick len lost)
 visited-pass {m} {tick} {len} p h lost is room s =

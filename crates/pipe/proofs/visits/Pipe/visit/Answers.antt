@@ -68,11 +68,14 @@ comes-pass c =
     comes c.self.invariant c.self.view_is c.requires.order c.deref.result.now c.deref.ensures.value
     (record { within = c.in_force_at-self-inside.ensures.within; params = c.in_force_at-self-inside.ensures.params; ahead = c.in_force_at-self-inside.ensures.ahead })
 
-drops-pass : (c : goal.After-struct_known-2-1) → Drops (view_of c.self.inside) c.args.tick c.in_force_at-self-inside.result.params c.drop_finished.new.times.items
+drops-pass : (c : goal.After-struct_known-2-1) → Drops
+    (view_of c.self.inside) c.args.tick c.in_force_at-self-inside.result.params c.drop_finished.new.times.items
 drops-pass c =
     drops c.self.view_is c.requires.order c.drop_finished.ensures.items c.in_ok-reserve.ensures.items (comes-pass c).params
 
-passes-pass : (c : goal.After-struct_known-2-1) → Passes (view_of c.self.inside) c.args.tick c.args.len c.in_force_at-self-inside.result.params c.drop_finished.new.times.items (c.max.result + c.tx_ns.result) c.keep_later.new.times.items
+passes-pass : (c : goal.After-struct_known-2-1) → Passes
+    (view_of c.self.inside) c.args.tick c.args.len c.in_force_at-self-inside.result.params c.drop_finished.new.times.items
+    (c.max.result + c.tx_ns.result) c.keep_later.new.times.items
 passes-pass c = passes (drops-pass c) c.max.ensures c.tx_ns.ensures.value c.keep_later.ensures
 
 pub overflow_add-finish : goal.overflow_add-finish
