@@ -8,7 +8,7 @@ use Rattle.modelnet.specs.declared.status.Status.{Status}
 use Rattle.modelnet.specs.declared.status.Status.TheVariants.{Done, NoMemory, BadWords, BadTrace, ReadFault, WriteFault, TooLarge}
 use Rattle.modelnet.specs.Roles.{Input, WasRead, IsReading}
 use Rattle.modelnet.specs.Commands.{Host, Command, ReadInputs, inputs_of, bytes_read, bytes_written, AreRead, Passes, FewerPass, Answered}
-use Rattle.modelnet.specs.Exact.{IsQuiet, IsOrNoMemory, Accepts, MustAnswer, IsSound}
+use Rattle.modelnet.specs.Exact.{IsQuiet, IsOrNoMemory, Accepts, MustAnswer, IsSoundCommand}
 
 -- the bytes that were read to the end are all that was told
 whole_bytes : (name bytes told : List ℕ) (old new : Part) → WasRead name bytes old new → old.left ≡ Some told → told ≡ bytes
@@ -84,12 +84,12 @@ pass_all : (c : Command) (bytes : List (List ℕ)) → Passes c bytes → Accept
 pass_all c bytes passes status refused = passes bytes [] status (sym (append-nil bytes)) refused
 
 -- what is written isn't refused
-written_passes : (c : Command) → IsSound c → (bytes outs : List (List ℕ)) → c.writes bytes outs → Passes c bytes
+written_passes : (c : Command) → IsSoundCommand c → (bytes outs : List (List ℕ)) → c.writes bytes outs → Passes c bytes
 written_passes c sound bytes outs says front back status is refused =
     sound.never_both front back outs status refused (subst (λ b. c.writes b outs) is says)
 
 -- the answer refuses what was read, so no other does, whatever inputs are left
-refusal_is_due : (c : Command) → IsSound c → (old new : Host) (bytes : List (List ℕ)) (later : List Input) (answer : Status) → c.refuses bytes answer
+refusal_is_due : (c : Command) → IsSoundCommand c → (old new : Host) (bytes : List (List ℕ)) (later : List Input) (answer : Status) → c.refuses bytes answer
     → MustAnswer c old new bytes later answer
 refusal_is_due c sound old new bytes [] answer refused = (
   λ refusal also. inl (sound.one_refusal bytes answer refusal refused also),
@@ -101,7 +101,7 @@ refusal_is_due c sound old new bytes (input ∷ later) answer refused = (
 )
 
 -- all inputs were read whole, and this is the end of a command that wrote or failed to write
-at_the_end : (c : Command) → IsSound c → (old new : Host) (answer : Status) (reads : ReadInputs) (outs : List (List ℕ)) → c.inputs ≡ inputs_of reads
+at_the_end : (c : Command) → IsSoundCommand c → (old new : Host) (answer : Status) (reads : ReadInputs) (outs : List (List ℕ)) → c.inputs ≡ inputs_of reads
     → AreRead reads old new → c.writes (bytes_read reads) outs → (((role : Role) → IsQuiet role old new) → IsOrNoMemory Done answer)
     → MustAnswer c old new [] c.inputs answer
 at_the_end c sound old new answer reads outs inputs read says last =
@@ -112,7 +112,7 @@ at_the_end c sound old new answer reads outs inputs read says last =
     )
 
 -- the answer of a command is the one that it has to be
-pub must_answer : (c : Command) → IsSound c → (old new : Host) (answer : Status) → Answered c old new answer → MustAnswer c old new [] c.inputs answer
+pub must_answer : (c : Command) → IsSoundCommand c → (old new : Host) (answer : Status) → Answered c old new answer → MustAnswer c old new [] c.inputs answer
 must_answer c sound old new Done a =
     at_the_end c sound old new Done a.reads (bytes_written a.writes) a.inputs a.stands.read a.says (λ quiet. inl refl)
 must_answer c sound old new NoMemory a = always_no_memory c old new [] c.inputs

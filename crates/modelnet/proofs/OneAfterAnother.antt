@@ -5,7 +5,7 @@ use Rattle.mn_edge.specs.Part.{Part}
 use Rattle.modelnet.specs.declared.status.Status.{Status}
 use Rattle.modelnet.specs.declared.status.Status.TheVariants.{Done, NoMemory, BadWords, BadTrace, ReadFault, WriteFault, TooLarge}
 use Rattle.modelnet.specs.Commands.{Host, Command, ReadInputs, WrittenOutputs, inputs_of, bytes_read, outputs_of, bytes_written, ReadsNot, WritesNot, AreRead, AreWritten, Stands, StopsAt, Passes, FewerPass, Answered}
-use Rattle.modelnet.specs.Exact.{Accepts, IsSound, IsRefusal}
+use Rattle.modelnet.specs.Exact.{Accepts, IsSoundCommand, IsRefusal}
 use Rattle.modelnet.specs.Roles.{Input, Output, WasRead, WasWritten, IsReadFault, IsTooLarge, IsWriteFault, ReadsInput, WritesOutput}
 
 -- a call on one role left every other as it was
@@ -246,7 +246,7 @@ stops_reading c reads at later (WriteFault role) old mid new so none own others 
 
 -- the next input was read whole, and its bytes are refused
 pub refuses : (c : Command) (reads : ReadInputs) (at : Input) (later : List Input) (bytes : List ℕ) (status : Status)
-    (old mid new : Host) → IsSound c → HasRead c reads (at ∷ later) old mid
+    (old mid new : Host) → IsSoundCommand c → HasRead c reads (at ∷ later) old mid
     → ReadsNot (inputs_of reads) at.role → ReadsInput at (mid at.role) (new at.role) (Ok bytes) → Others at.role mid new
     → (status ≡ NoMemory) ⊎ c.refuses (bytes_read reads ++ bytes ∷ []) status → Answered c old new status
 refuses c reads at later bytes status old mid new sound so none own others (inl empty) =

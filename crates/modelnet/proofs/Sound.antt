@@ -10,7 +10,7 @@ use Rattle.modelnet.specs.declared.status.Status.TheVariants.{Done, NoMemory, Ba
 use Rattle.modelnet.specs.declared.words_fault.WordsFault.{WordsFault}
 use Rattle.modelnet.specs.Order.{ChainView}
 use Rattle.modelnet.specs.Commands.{Host, ReadsNot, Answered}
-use Rattle.modelnet.specs.Exact.{IsRefusal, IsSound, IsOrNoMemory}
+use Rattle.modelnet.specs.Exact.{IsRefusal, IsSoundCommand, IsOrNoMemory}
 use Rattle.modelnet.specs.TheCommands.{chain_refuses, chain_writes, chain_command, command_of}
 use Rattle.modelnet.specs.Answers.{IsOrdered, Answers, IsExact, WordsAndBytesHaveOneOutcome}
 use Rattle.modelnet.specs.Words.{ordered}
@@ -75,7 +75,7 @@ chain_one_output order (trace ∷ []) (out ∷ report ∷ []) (out' ∷ report' 
     let same = one_run order trace out report out' report' says also in
     ap (λ o. o ∷ report ∷ []) same.0 ∙ ap (λ r. out' ∷ r ∷ []) same.1
 
-pub chain_is_sound : (limits : ReadLimits) (order : ChainView) → IsSound (chain_command limits order)
+pub chain_is_sound : (limits : ReadLimits) (order : ChainView) → IsSoundCommand (chain_command limits order)
 chain_is_sound limits order = record {
   refusals = chain_refusals;
   one_refusal = chain_one_refusal;
@@ -85,7 +85,7 @@ chain_is_sound limits order = record {
 
 -- every command
 
-pub is_sound : (limits : ReadLimits) (order : Order) → IsSound (command_of limits order)
+pub is_sound : (limits : ReadLimits) (order : Order) → IsSoundCommand (command_of limits order)
 is_sound limits (Chain order) = chain_is_sound limits order
 
 -- two orders of the same words are one

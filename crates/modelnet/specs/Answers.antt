@@ -7,7 +7,7 @@ use Rattle.modelnet.specs.declared.status.Status.{Status}
 use Rattle.modelnet.specs.declared.status.Status.TheVariants.{NoMemory, BadWords}
 use Rattle.modelnet.specs.declared.words_fault.WordsFault.{WordsFault}
 use Rattle.modelnet.specs.Commands.{Host, ReadsNot, Answered}
-use Rattle.modelnet.specs.Exact.{IsOrNoMemory, MustAnswer, IsSound}
+use Rattle.modelnet.specs.Exact.{IsOrNoMemory, MustAnswer, IsSoundCommand}
 use Rattle.modelnet.specs.TheCommands.{command_of}
 use Rattle.modelnet.specs.Words.{ordered}
 
@@ -33,7 +33,7 @@ pub record IsExact (limits : ReadLimits) (words : List (List ℕ)) (old new : Ho
 
 -- each command is sound: a refusal is one, excludes an output, and there is one output at most
 abbrev pub EachCommandIsSound : Type 0
-EachCommandIsSound = (limits : ReadLimits) (order : Order) → IsSound (command_of limits order)
+EachCommandIsSound = (limits : ReadLimits) (order : Order) → IsSoundCommand (command_of limits order)
 
 -- the same words and the same bytes of the inputs have the same bytes of the outputs
 abbrev pub WordsAndBytesHaveOneOutcome : Type 0

@@ -47,7 +47,7 @@ IsRefusal refusal = Unit {0}
 
 -- What is asked of a command: bytes are refused by one answer at most, which is a refusal; what is refused isn't written, whatever
 -- inputs follow; and there is one output for its inputs at most.
-pub record IsSound (c : Command) : Type 0 where
+pub record IsSoundCommand (c : Command) : Type 0 where
   pub refusals : (bytes : List (List ℕ)) (status : Status) → c.refuses bytes status → IsRefusal status
   pub one_refusal : (bytes : List (List ℕ)) (one other : Status) → c.refuses bytes one → c.refuses bytes other → one ≡ other
   pub never_both : (front back outs : List (List ℕ)) (status : Status) → c.refuses front status → c.writes (front ++ back) outs → ⊥
