@@ -42,21 +42,25 @@ abbrev counts : ℕ → ℕ → ℕ → ℕ → PipeCounts
 counts pipe passed lost full = record { pipe = pipe; passed = passed; lost = lost; full = full }
 
 counted-is : (pipe passed lost full : ℕ) (s : Step)
-    → counts pipe (passed + cond (has_passed s) 1 0) (lost + cond (has_lost s) 1 0) (full + cond (has_found_full s) 1 0) ≡ counted (counts pipe passed lost full) s
+    → counts pipe (passed + cond (has_passed s) 1 0) (lost + cond (has_lost s) 1 0) (full + cond (has_found_full s) 1 0) ≡ counted
+        (counts pipe passed lost full) s
 counted-is pipe passed lost full Lost = simp add-zero
 counted-is pipe passed lost full Full = simp add-zero
 counted-is pipe passed lost full (Pass exit) = simp add-zero
 
-counts_by-here : (pipe : ℕ) (ways : List (ℕ × Step)) (m : ℕ × Step) → m.0 ≡ pipe → counts_by (ways ++ m ∷ []) pipe ≡ counted (counts_by ways pipe) m.1
+counts_by-here : (pipe : ℕ) (ways : List (ℕ × Step)) (m : ℕ × Step) → m.0 ≡ pipe
+    → counts_by (ways ++ m ∷ []) pipe ≡ counted (counts_by ways pipe) m.1
 counts_by-here pipe ways m here =
     rw (count_here has_passed pipe ways m here, count_here has_lost pipe ways m here, count_here has_found_full pipe ways m here)
     (counted-is pipe _ _ _ m.1)
 
-counts_by-elsewhere : (pipe : ℕ) (ways : List (ℕ × Step)) (m : ℕ × Step) → (m.0 ≡ pipe → ⊥) → counts_by (ways ++ m ∷ []) pipe ≡ counts_by ways pipe
+counts_by-elsewhere : (pipe : ℕ) (ways : List (ℕ × Step)) (m : ℕ × Step) → (m.0 ≡ pipe → ⊥)
+    → counts_by (ways ++ m ∷ []) pipe ≡ counts_by ways pipe
 counts_by-elsewhere pipe ways m elsewhere =
     rw (count_elsewhere has_passed pipe ways m elsewhere, count_elsewhere has_lost pipe ways m elsewhere, count_elsewhere has_found_full pipe ways m elsewhere) refl
 
-at_index : (g : ℕ → PipeCounts) (n k : ℕ) (all : List PipeCounts) (e : PipeCounts) → all ≡ map g (range_with_len 0 n) → k < n → get_or all k e ≡ g k
+at_index : (g : ℕ → PipeCounts) (n k : ℕ) (all : List PipeCounts) (e : PipeCounts) → all ≡ map g (range_with_len 0 n) → k < n
+    → get_or all k e ≡ g k
 at_index g n k all e so_far below =
     ap (λ xs. get_or xs k e) so_far ∙ get_or-map-range_with_len g 0 n k k e below (omega arith)
 
@@ -85,7 +89,8 @@ counted_at n ways m all e named so_far =
     (cases_eq m.0 k))
 
 -- the same, where x is what stands there and y what is written
-pub counted_step : (n : ℕ) (ways : List (ℕ × Step)) (pipe : ℕ) (step : Step) (all more : List PipeCounts) (x y : PipeCounts) → pipe < length all
+pub counted_step : (n : ℕ) (ways : List (ℕ × Step)) (pipe : ℕ) (step : Step) (all more : List PipeCounts) (x y : PipeCounts)
+    → pipe < length all
     → more ≡ set all pipe y → y ≡ counted x step → x ≡ get_or all pipe x → all ≡ map (counts_by ways) (range_with_len 0 n)
     → more ≡ map (counts_by (ways ++ (pipe, step) ∷ [])) (range_with_len 0 n)
 counted_step n ways pipe step all more x y named written new old so_far =
@@ -94,7 +99,8 @@ counted_step n ways pipe step all more x y named written new old so_far =
     ∙ counted_at n ways (pipe, step) all x named so_far
 
 -- no count is above the number of visits, so one more fits
-pub counted_room : (all : List PipeCounts) (pipe : ℕ) (c : PipeCounts) (more : ℕ) → IsTally all more → 0 < more → pipe < length all → c ≡ get_or all pipe c → HasRoom c
+pub counted_room : (all : List PipeCounts) (pipe : ℕ) (c : PipeCounts) (more : ℕ) → IsTally all more → 0 < more → pipe < length all
+    → c ≡ get_or all pipe c → HasRoom c
 counted_room all pipe c more t some named is =
     let count = long (counts_by t.ways) t.pipes all t.counts_are in
     let same : c ≡ counts_by t.ways pipe = is ∙ at_index (counts_by t.ways) t.pipes pipe all c t.counts_are (omega (arith, count, named)) in
@@ -110,7 +116,8 @@ counted_room all pipe c more t some named is =
 abbrev pub passes : List ℕ → List (ℕ × Step)
 passes pipes = map (λ q. (q, Pass 0)) pipes
 
-passes-more : (route : List ℕ) (i d : ℕ) → i < length route → passes (take (i + 1) route) ≡ passes (take i route) ++ (get_or route i d, Pass 0) ∷ []
+passes-more : (route : List ℕ) (i d : ℕ) → i < length route
+    → passes (take (i + 1) route) ≡ passes (take i route) ++ (get_or route i d, Pass 0) ∷ []
 passes-more route i d within = ap passes (take_more route i d within) ∙ map-append (λ q. (q, Pass 0)) (take i route) (get_or route i d ∷ [])
 
 way_of-rest : (route : List ℕ) (fate : Fate) (i d : ℕ) → i < length route
@@ -147,7 +154,8 @@ counting-writes : {route : List ℕ} {fate : Fate} {i pipe : ℕ} {step : Step} 
     → more ≡ map (counts_by (ways ++ (passes (take i route) ++ (pipe, step) ∷ []))) (range_with_len 0 pipes)
 counting-writes {route} {fate} {i} {pipe} {step} {before} {now} {more} {x} {y} c w named ways pipes is =
     let here : get_or route i 0 < length before = named i 0 w.within in
-    counted_step pipes (ways ++ passes (take i route)) pipe step now more x y (omega (arith, w.pipe_is, c.long)) w.written w.counted_is w.read (c.tallied ways pipes is)
+    counted_step pipes (ways ++ passes (take i route)) pipe step now more x y (omega
+        (arith, w.pipe_is, c.long)) w.written w.counted_is w.read (c.tallied ways pipes is)
     ∙ ap (λ ms. map (counts_by ms) (range_with_len 0 pipes)) (append_assoc ways (passes (take i route)) ((pipe, step) ∷ []))
 
 -- the packet passed one pipe more
@@ -186,7 +194,8 @@ counting-drops {route} {fate} {i} {pipe} {step} c w named some ways pipes is =
     counting-writes c w named ways pipes is ∙ ap (λ ms. map (counts_by (ways ++ ms)) (range_with_len 0 pipes)) (sym whole)
 
 -- it passed them all
-pub counting-ends : {route : List ℕ} {fate : Fate} {i : ℕ} {before now : List PipeCounts} → IsCounting route fate i before now → length route ≤ i
+pub counting-ends : {route : List ℕ} {fate : Fate} {i : ℕ} {before now : List PipeCounts} → IsCounting route fate i before now
+    → length route ≤ i
     → (ways : List (ℕ × Step)) (pipes : ℕ) → before ≡ map (counts_by ways) (range_with_len 0 pipes)
     → now ≡ map (counts_by (ways ++ way_of route fate)) (range_with_len 0 pipes)
 counting-ends {route} {fate} {i} c far ways pipes is =
@@ -195,7 +204,8 @@ counting-ends {route} {fate} {i} c far ways pipes is =
     c.tallied ways pipes is ∙ ap (λ ms. map (counts_by (ways ++ ms)) (range_with_len 0 pipes)) (sym whole)
 
 -- one more visit can be counted on the way
-pub counting-room : {route : List ℕ} {fate : Fate} {i pipe : ℕ} {before now : List PipeCounts} {x : PipeCounts} → IsCounting route fate i before now
+pub counting-room : {route : List ℕ} {fate : Fate} {i pipe : ℕ} {before now : List PipeCounts} {x : PipeCounts}
+    → IsCounting route fate i before now
     → IsTally before (length route) → All (λ q. q < length before) route → i < length route → pipe ≡ get_or route i 0 → x ≡ get_or now pipe x → HasRoom x
 counting-room {route} {fate} {i} {pipe} {before} {now} {x} c t named within at read =
     let here : get_or route i 0 < length before = named i 0 within in

@@ -30,18 +30,21 @@ abbrev leavings_by : (PacketPlan → Fate) → List PacketPlan → List (List �
 leavings_by fate ps bytes = filter_map (λ p. leaving_of p.0.number p.1 (fate p.0)) (zip ps bytes)
 
 -- of packets above a number, those that left are above it
-leavings-above : (fate : PacketPlan → Fate) (n : ℕ) (ps : List PacketPlan) (bytes : List (List ℕ)) → All (λ p. n < p.number) ps → All (λ left. n < left.packet) (leavings_by fate ps bytes)
+leavings-above : (fate : PacketPlan → Fate) (n : ℕ) (ps : List PacketPlan) (bytes : List (List ℕ)) → All (λ p. n < p.number) ps
+    → All (λ left. n < left.packet) (leavings_by fate ps bytes)
 leavings-above fate n [] bytes above = λ i d within. absurd (omega arith)
 leavings-above fate n (p ∷ ps) [] above = λ i d within. absurd (omega arith)
 leavings-above fate n (p ∷ ps) (b ∷ bytes) above =
     go (fate p) (leavings-above fate n ps bytes (λ i d within. above (suc i) d (omega arith)))
   where
-    go : (f : Fate) → All (λ left. n < left.packet) (leavings_by fate ps bytes) → All (λ left. n < left.packet) (cons_option (leaving_of p.number b f) (leavings_by fate ps bytes))
+    go : (f : Fate) → All (λ left. n < left.packet) (leavings_by fate ps bytes)
+        → All (λ left. n < left.packet) (cons_option (leaving_of p.number b f) (leavings_by fate ps bytes))
     go (Left tick) rest = All-cons (λ left. n < left.packet) _ _ (above 0 p (omega arith)) rest
     go (Dropped pipe tick cause) rest = rest
 
 -- in packet order their numbers rise
-pub leavings-rise : (fate : PacketPlan → Fate) (ps : List PacketPlan) (bytes : List (List ℕ)) → AllPairs (λ p q. p.number < q.number) ps → AllPairs (λ a b. a.packet < b.packet) (filter_map (λ p. leaving_of p.0.number p.1 (fate p.0)) (zip ps bytes))
+pub leavings-rise : (fate : PacketPlan → Fate) (ps : List PacketPlan) (bytes : List (List ℕ)) → AllPairs (λ p q. p.number < q.number) ps
+    → AllPairs (λ a b. a.packet < b.packet) (filter_map (λ p. leaving_of p.0.number p.1 (fate p.0)) (zip ps bytes))
 leavings-rise fate [] bytes up = λ i j d lt within. absurd (omega arith)
 leavings-rise fate (p ∷ ps) [] up = λ i j d lt within. absurd (omega arith)
 leavings-rise fate (p ∷ ps) (b ∷ bytes) up =
@@ -49,7 +52,9 @@ leavings-rise fate (p ∷ ps) (b ∷ bytes) up =
     (leavings-above fate p.number ps bytes (λ i d within. up 0 (suc i) d (omega arith) (omega arith)))
     (leavings-rise fate ps bytes (tail (λ p q. p.number < q.number) p ps up))
   where
-    go : (f : Fate) → All (λ left. p.number < left.packet) (leavings_by fate ps bytes) → AllPairs (λ a b. a.packet < b.packet) (leavings_by fate ps bytes) → AllPairs (λ a b. a.packet < b.packet) (cons_option (leaving_of p.number b f) (leavings_by fate ps bytes))
+    go : (f : Fate) → All (λ left. p.number < left.packet) (leavings_by fate ps bytes)
+        → AllPairs (λ a b. a.packet < b.packet) (leavings_by fate ps bytes)
+        → AllPairs (λ a b. a.packet < b.packet) (cons_option (leaving_of p.number b f) (leavings_by fate ps bytes))
     go (Left tick) above rest = AllPairs-cons (λ a b. a.packet < b.packet) _ _ above rest
     go (Dropped pipe tick cause) above rest = rest
 
@@ -65,7 +70,8 @@ eqb-flip m n =
     (cases_eq m n)
 
 -- numbers that rise differ
-risen-differ : (xs : List Leaving) → AllPairs (λ a b. a.packet < b.packet) xs → AllPairs (λ m n. m ≢ n) (map (λ (left : Leaving). left.packet) xs)
+risen-differ : (xs : List Leaving) → AllPairs (λ a b. a.packet < b.packet) xs
+    → AllPairs (λ m n. m ≢ n) (map (λ (left : Leaving). left.packet) xs)
 risen-differ xs up i j d lt within same =
     let number : Leaving → ℕ = λ left. left.packet in
     let long : length (map number xs) ≡ length xs = length-map xs number in
@@ -76,7 +82,8 @@ risen-differ xs up i j d lt within same =
     omega (arith, at_i, at_j, rises, same)
 
 -- whatever order they are put in, their numbers differ
-pub packets-differ : (xs ys : List Leaving) → AllPairs (λ a b. a.packet < b.packet) xs → IsPermutation xs ys → AllPairs (λ a b. a.packet ≢ b.packet) ys
+pub packets-differ : (xs ys : List Leaving) → AllPairs (λ a b. a.packet < b.packet) xs → IsPermutation xs ys
+    → AllPairs (λ a b. a.packet ≢ b.packet) ys
 packets-differ xs ys up moved i j d lt within same =
     let number : Leaving → ℕ = λ left. left.packet in
     let distinct =
@@ -118,7 +125,8 @@ pair_total : IsTotalOrder pair_cmp
 pair_total = then_total (on_total (λ (p : ℕ × ℕ). p.0) nat_cmp_total) (on_total (λ (p : ℕ × ℕ). p.1) nat_cmp_total)
 
 -- sorted by (tick, packet), packets that differ rise strictly
-pub sorted-in_order : (ys : List Leaving) → IsSortedByKey tick_and_packet pair_cmp ys → AllPairs (λ a b. a.packet ≢ b.packet) ys → AllPairs LeavesBefore ys
+pub sorted-in_order : (ys : List Leaving) → IsSortedByKey tick_and_packet pair_cmp ys → AllPairs (λ a b. a.packet ≢ b.packet) ys
+    → AllPairs LeavesBefore ys
 sorted-in_order ys sorted differ i j d lt within =
     in_order _ _ _ _
     (sorted_far (λ a b. is_lt (pair_cmp (tick_and_packet a) (tick_and_packet b))) (ranks_by pair_total tick_and_packet) ys sorted i j d (omega arith) within)

@@ -81,7 +81,8 @@ module _ (S : SetupView) (is : IsSetup S) where
         stopped p v (Pass exit) among packet step (rw (le-ltb (v.hop + 1) (length (route_of S v.packet)) (omega arith)) refl);
   }
     where
-      next : (v : Visit) (exit : ℕ) → Among v (journal_of S) → v.packet ≡ p.number → v.step ≡ Pass exit → v.hop + 1 < length (route_of S p.number)
+      next : (v : Visit) (exit : ℕ) → Among v (journal_of S) → v.packet ≡ p.number → v.step ≡ Pass exit
+          → v.hop + 1 < length (route_of S p.number)
           → (w : Visit) × Among w (journal_of S) × (w.packet ≡ p.number) × (w.hop ≡ v.hop + 1)
       next v exit among packet step within =
           let x : Due = record { tick = exit; packet = v.packet; hop = v.hop + 1 } in

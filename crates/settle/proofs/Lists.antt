@@ -24,14 +24,16 @@ many-cons test x xs = go (test x)
 pub many-append : {X : Type 0} (test : X → Bool) (xs ys : List X) → many test (xs ++ ys) ≡ many test xs + many test ys
 many-append test xs ys = ap length (filter-append test xs ys) ∙ length-append (filter test xs) (filter test ys)
 
-pub many-flat_map : {X Y : Type 0} (test : Y → Bool) (f : X → List Y) (xs : List X) → many test (flat_map f xs) ≡ sum_by (λ x. many test (f x)) xs
+pub many-flat_map : {X Y : Type 0} (test : Y → Bool) (f : X → List Y) (xs : List X)
+    → many test (flat_map f xs) ≡ sum_by (λ x. many test (f x)) xs
 many-flat_map test f [] = refl
 many-flat_map test f (x ∷ xs) =
     let rest = many-flat_map test f xs in
     omega (arith, rest, many-append test (f x) (flat_map f xs), sum_by-cons (λ x. many test (f x)) x xs)
 
 -- a test that passes exactly what one of two others passes
-pub many-split : {X : Type 0} (a b c : X → Bool) (xs : List X) → ((x : X) → Among x xs → as_number (a x) ≡ as_number (b x) + as_number (c x))
+pub many-split : {X : Type 0} (a b c : X → Bool) (xs : List X)
+    → ((x : X) → Among x xs → as_number (a x) ≡ as_number (b x) + as_number (c x))
     → many a xs ≡ many b xs + many c xs
 many-split a b c [] each = refl
 many-split a b c (x ∷ xs) each =
@@ -63,7 +65,8 @@ AllDiffer [] = Unit {0}
 AllDiffer (x ∷ xs) = (Among x xs → ⊥) × AllDiffer xs
 
 -- where one element alone can pass, it counts as its test says
-pub many-one : {X : Type 0} (test : X → Bool) (x : X) (xs : List X) → AllDiffer xs → Among x xs → ((y : X) → Among y xs → test y ≡ true → y ≡ x)
+pub many-one : {X : Type 0} (test : X → Bool) (x : X) (xs : List X) → AllDiffer xs → Among x xs
+    → ((y : X) → Among y xs → test y ≡ true → y ≡ x)
     → many test xs ≡ as_number (test x)
 many-one test x [] differ among only = absurd among
 many-one {X} test x (y ∷ ys) differ (inl same) only =

@@ -35,7 +35,8 @@ module _ (J : List Visit) where
   dropped-coreless (p ∷ ps) = ap (cons_option (drop_of p.number (fate_after J p))) (dropped-coreless ps)
 
 -- the outcome of a setup is that of any other that differs in cores alone
-outcome-moved : (S R : SetupView) (J : List Visit) (bytes : List (List ℕ)) (o : OutcomeView) → bare R ≡ bare S → IsOutcome R J bytes o → IsOutcome S J bytes o
+outcome-moved : (S R : SetupView) (J : List Visit) (bytes : List (List ℕ)) (o : OutcomeView) → bare R ≡ bare S → IsOutcome R J bytes o
+    → IsOutcome S J bytes o
 outcome-moved S R J bytes o same is =
     let packets : map coreless R.packets ≡ map coreless S.packets = ap (λ (s : SetupView). s.packets) same in
     let pipes : R.pipes ≡ S.pipes = ap (λ (s : SetupView). s.pipes) same in

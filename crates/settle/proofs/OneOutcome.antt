@@ -46,7 +46,8 @@ abbrev Within : List Leaving → List Leaving → Type 0
 Within xs ys = (z : Leaving) → Among z xs → Among z ys
 
 -- both lists begin with the same
-same_first : (x y : Leaving) (xs ys : List Leaving) → AllPairs LeavesBefore (x ∷ xs) → AllPairs LeavesBefore (y ∷ ys) → Within (x ∷ xs) (y ∷ ys) → Within (y ∷ ys) (x ∷ xs) → x ≡ y
+same_first : (x y : Leaving) (xs ys : List Leaving) → AllPairs LeavesBefore (x ∷ xs) → AllPairs LeavesBefore (y ∷ ys)
+    → Within (x ∷ xs) (y ∷ ys) → Within (y ∷ ys) (x ∷ xs) → x ≡ y
 same_first x y xs ys up_xs up_ys there back =
     ⊎_elim
     (λ (same : y ≡ x). sym same)

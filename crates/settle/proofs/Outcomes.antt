@@ -14,18 +14,22 @@ use Rattle.settle.specs.IsOutcome.{leaving_of, drop_of, counts_of, IsOutcome}
 use Rattle.settle.proofs.InOrder.{tick_and_packet, pair_cmp, leavings-rise, packets-differ, sorted-in_order}
 
 -- a list of fates beside the packets is the packets, each with its fate
-leavings-beside : (fate : PacketPlan → Fate) (ps : List PacketPlan) (bytes : List (List ℕ)) → filter_map (λ p. leaving_of p.0.0.number p.1 p.0.1) (zip (zip ps (map fate ps)) bytes) ≡ filter_map (λ p. leaving_of p.0.number p.1 (fate p.0)) (zip ps bytes)
+leavings-beside : (fate : PacketPlan → Fate) (ps : List PacketPlan) (bytes : List (List ℕ))
+    → filter_map (λ p. leaving_of p.0.0.number p.1 p.0.1) (zip (zip ps (map fate ps)) bytes) ≡ filter_map (λ p. leaving_of p.0.number p.1
+        (fate p.0)) (zip ps bytes)
 leavings-beside fate [] bytes = refl
 leavings-beside fate (p ∷ ps) [] = refl
 leavings-beside fate (p ∷ ps) (b ∷ bytes) =
     ap (cons_option (leaving_of p.number b (fate p))) (leavings-beside fate ps bytes)
 
-drops-beside : (fate : PacketPlan → Fate) (ps : List PacketPlan) → filter_map (λ p. drop_of p.0.number p.1) (zip ps (map fate ps)) ≡ filter_map (λ p. drop_of p.number (fate p)) ps
+drops-beside : (fate : PacketPlan → Fate) (ps : List PacketPlan)
+    → filter_map (λ p. drop_of p.0.number p.1) (zip ps (map fate ps)) ≡ filter_map (λ p. drop_of p.number (fate p)) ps
 drops-beside fate [] = refl
 drops-beside fate (p ∷ ps) = ap (cons_option (drop_of p.number (fate p))) (drops-beside fate ps)
 
 -- what was gathered, where ps and qs are what the code reads as the packets
-pub IsOutcome-gathered : (S : SetupView) (visits : List Visit) (bytes : List (List ℕ)) (fates : List Fate) (ps qs : List PacketPlan) (left : List Leaving) (o : OutcomeView)
+pub IsOutcome-gathered : (S : SetupView) (visits : List Visit) (bytes : List (List ℕ)) (fates : List Fate) (ps qs : List PacketPlan)
+    (left : List Leaving) (o : OutcomeView)
     → IsSetup S → length bytes ≡ length S.packets → fates ≡ map (fate_after visits) S.packets → ps ≡ S.packets → qs ≡ S.packets
     → left ≡ filter_map (λ p. leaving_of p.0.0.number p.1 p.0.1) (zip (zip ps fates) bytes) → IsPermutation left o.leaving
     → IsSortedByKey tick_and_packet pair_cmp o.leaving → o.dropped ≡ filter_map (λ p. drop_of p.0.number p.1) (zip qs fates)

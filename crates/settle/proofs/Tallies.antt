@@ -28,11 +28,13 @@ length-way : (route : List ℕ) (fate : Fate) → length (way_of route fate) ≤
 length-way [] fate = omega arith
 length-way (pipe ∷ route) fate = go (drop_step fate pipe) (length-way route fate)
   where
-    go : (o : Option Step) → length (way_of route fate) ≤ length route → length (way_from pipe o (way_of route fate)) ≤ length (pipe ∷ route)
+    go : (o : Option Step) → length (way_of route fate) ≤ length route
+        → length (way_from pipe o (way_of route fate)) ≤ length (pipe ∷ route)
     go (Some step) rest = omega arith
     go None rest = omega arith
 
-length-ways : (S : SetupView) (fate : PacketPlan → Fate) (ps : List PacketPlan) → ((p : PacketPlan) → Among p ps → length (route_of S p.number) ≤ ROUTE_PIPES_MAX)
+length-ways : (S : SetupView) (fate : PacketPlan → Fate) (ps : List PacketPlan)
+    → ((p : PacketPlan) → Among p ps → length (route_of S p.number) ≤ ROUTE_PIPES_MAX)
     → length (ways_of S fate ps) ≤ ROUTE_PIPES_MAX * length ps
 length-ways S fate [] short = omega arith
 length-ways S fate (p ∷ ps) short =
@@ -41,7 +43,8 @@ length-ways S fate (p ∷ ps) short =
     omega (arith, rest, here, short p (inl refl), length-append (way_of (route_of S p.number) (fate p)) (ways_of S fate ps))
 
 -- packets whose numbers rise and are below a bound are few
-packets-few : (low high : ℕ) (ps : List PacketPlan) → NumbersRise ps → ((p : PacketPlan) → Among p ps → (low ≤ p.number) × (p.number < high)) → length ps ≤ high - low
+packets-few : (low high : ℕ) (ps : List PacketPlan) → NumbersRise ps
+    → ((p : PacketPlan) → Among p ps → (low ≤ p.number) × (p.number < high)) → length ps ≤ high - low
 packets-few low high [] rise within = omega arith
 packets-few low high (p ∷ ps) rise within =
     let here = within p (inl refl) in
@@ -56,10 +59,12 @@ CountsBelow S index all =
 
 module _ (S : SetupView) (is : IsSetup S) where
   -- one more packet can be counted
-  pub tally-below : (index : ℕ) (all : List PipeCounts) (more : ℕ) → CountsBelow S index all → index ≤ length S.packets → more ≤ ROUTE_PIPES_MAX → IsTally all more
+  pub tally-below : (index : ℕ) (all : List PipeCounts) (more : ℕ) → CountsBelow S index all → index ≤ length S.packets
+      → more ≤ ROUTE_PIPES_MAX → IsTally all more
   tally-below index all more counted within short =
       let front : length (take index S.packets) ≡ index = length-take-le index S.packets within in
-      let few = packets-few 0 PACKETS_MAX S.packets is.numbers_rise (λ p among. (omega arith, All-Among (λ (q : PacketPlan). q.number < PACKETS_MAX) p S.packets is.numbers_most among)) in
+      let few = packets-few 0 PACKETS_MAX S.packets is.numbers_rise (λ p among. (omega arith, All-Among (λ
+          (q : PacketPlan). q.number < PACKETS_MAX) p S.packets is.numbers_most among)) in
       let ways = length-ways S (fate_of S) (take index S.packets) (λ p among. route-short p (among-take index S.packets p among)) in
       record {
         ways = ways_of S (fate_of S) (take index S.packets);
@@ -81,10 +86,12 @@ module _ (S : SetupView) (is : IsSetup S) where
   below-long index all counted = ap length counted ∙ length-map-range_with_len (counts_by (ways_of S (fate_of S) (take index S.packets))) 0 (length S.pipes)
 
   -- with it the counts are those of one packet more
-  pub below-more : (index : ℕ) (all more : List PipeCounts) (route : List ℕ) (fate : Fate) (fates : List Fate) → CountsBelow S index all → index < length fates
+  pub below-more : (index : ℕ) (all more : List PipeCounts) (route : List ℕ) (fate : Fate) (fates : List Fate) → CountsBelow S index all
+      → index < length fates
       → fates ≡ map (fate_of S) S.packets → fate ≡ get_or fates index fate
       → ((p : PacketPlan) → slice_get S.packets index ≡ Some p → route ≡ route_of S p.number)
-      → ((ways : List (ℕ × Step)) (pipes : ℕ) → all ≡ map (counts_by ways) (range_with_len 0 pipes) → more ≡ map (counts_by (ways ++ way_of route fate)) (range_with_len 0 pipes))
+      → ((ways : List (ℕ × Step)) (pipes : ℕ) → all ≡ map (counts_by ways) (range_with_len 0 pipes) → more ≡ map (counts_by
+          (ways ++ way_of route fate)) (range_with_len 0 pipes))
       → CountsBelow S (index + 1) more
   below-more index all more route fate fates counted within fates_are fate_is route_is writes =
       writes (ways_of S (fate_of S) (take index S.packets)) (length S.pipes) counted
@@ -118,14 +125,16 @@ module _ (S : SetupView) (is : IsSetup S) where
   below-all index all counted far =
       counted
       ∙ ap (λ ps. map (counts_by (ways_of S (fate_of S) ps)) (range_with_len 0 (length S.pipes))) (take_all index S.packets far)
-      ∙ map-same (counts_by (ways_of S (fate_of S) S.packets)) (counts_of (journal_of S)) (counts_by-ways (journal-walks S is)) (range_with_len 0 (length S.pipes))
+      ∙ map-same (counts_by (ways_of S (fate_of S) S.packets)) (counts_of (journal_of S)) (counts_by-ways (journal-walks S is))
+          (range_with_len 0 (length S.pipes))
     where
       map-same : (f g : ℕ → PipeCounts) → ((q : ℕ) → f q ≡ g q) → (qs : List ℕ) → map f qs ≡ map g qs
       map-same f g same [] = refl
       map-same f g same (q ∷ qs) = ap (λ c. c ∷ map f qs) (same q) ∙ ap (λ cs. g q ∷ cs) (map-same f g same qs)
 
 -- a packet that is read at an index stands there
-pub plan-read : (S : SetupView) (ps : List PacketPlan) (index : ℕ) (x : PacketPlan) → ps ≡ S.packets → index < length S.packets → x ≡ get_or ps index x
+pub plan-read : (S : SetupView) (ps : List PacketPlan) (index : ℕ) (x : PacketPlan) → ps ≡ S.packets → index < length S.packets
+    → x ≡ get_or ps index x
     → slice_get S.packets index ≡ Some x
 plan-read S ps index x same within read =
     slice_get_read S.packets (length S.packets) index x refl within (read ∙ ap (λ qs. get_or qs index x) same)

@@ -48,11 +48,13 @@ from_hop-split : (packet hop : ℕ) (test : Visit → Bool) (v : Visit)
     → as_number (from_hop packet hop test v) ≡ as_number (at_hop packet hop test v) + as_number (from_hop packet (suc hop) test v)
 from_hop-split packet hop test v = go (eqb v.packet packet)
   where
-    go : (a : Bool) → as_number (a && (leb hop v.hop && test v)) ≡ as_number (a && (eqb v.hop hop && test v)) + as_number (a && (leb (suc hop) v.hop && test v))
+    go : (a : Bool)
+        → as_number (a && (leb hop v.hop && test v)) ≡ as_number (a && (eqb v.hop hop && test v)) + as_number (a && (leb (suc hop) v.hop && test v))
     go false = refl
     go true = order (cases_order v.hop hop)
       where
-        order : (v.hop ≡ hop) ⊎ ((v.hop < hop) ⊎ (hop < v.hop)) → as_number (leb hop v.hop && test v) ≡ as_number (eqb v.hop hop && test v) + as_number (leb (suc hop) v.hop && test v)
+        order : (v.hop ≡ hop) ⊎ ((v.hop < hop) ⊎ (hop < v.hop))
+            → as_number (leb hop v.hop && test v) ≡ as_number (eqb v.hop hop && test v) + as_number (leb (suc hop) v.hop && test v)
         order (inl same) = rw (eq-eqb v.hop hop same, le-leb hop v.hop (omega arith), lt-leb (suc hop) v.hop (omega arith)) (omega arith)
         order (inr (inl early)) = rw (ne_eqb v.hop hop (λ e. omega arith), lt-leb hop v.hop early, lt-leb (suc hop) v.hop (omega arith)) refl
         order (inr (inr late)) = rw (ne_eqb v.hop hop (λ e. omega arith), le-leb hop v.hop (omega arith), le-leb (suc hop) v.hop (omega arith)) (omega arith)
@@ -67,7 +69,8 @@ to_pipe has pipe v = eqb v.pipe pipe && has v.step
 
 -- the facts of a packet from a hop on: what is counted of it, and that a pipe that drops it is on the rest of its route
 pub record IsCounted (J : List Visit) (packet hop : ℕ) (rest : List ℕ) (fate : Fate) : Type 0 where
-  pub count : (has : Step → Bool) (pipe : ℕ) → IsBlind has → many (from_hop packet hop (to_pipe has pipe)) J ≡ step_count has pipe (way_of rest fate)
+  pub count : (has : Step → Bool) (pipe : ℕ) → IsBlind has
+      → many (from_hop packet hop (to_pipe has pipe)) J ≡ step_count has pipe (way_of rest fate)
   pub dropper : (pipe tick : ℕ) (cause : Cause) → fate ≡ Dropped pipe tick cause → Among pipe rest
 
 -- the first of a route's rest, and the rest behind it
@@ -108,7 +111,8 @@ no-drop pipe rest (Left tick) dropper not = refl
 no-drop pipe rest (Dropped at tick cause) dropper not =
     rw (ne_eqb at pipe (λ e. not (subst (λ (q : ℕ). Among q rest) e (dropper at tick cause refl)))) refl
 
-way_of-pass : (pipe : ℕ) (rest : List ℕ) (fate : Fate) → drop_step fate pipe ≡ None → way_of (pipe ∷ rest) fate ≡ (pipe, Pass 0) ∷ way_of rest fate
+way_of-pass : (pipe : ℕ) (rest : List ℕ) (fate : Fate) → drop_step fate pipe ≡ None
+    → way_of (pipe ∷ rest) fate ≡ (pipe, Pass 0) ∷ way_of rest fate
 way_of-pass pipe rest fate is = ap (λ step. way_from pipe step (way_of rest fate)) is
 
 step_count-cons : (has : Step → Bool) (q pipe : ℕ) (step : Step) (ways : List (ℕ × Step))
@@ -165,7 +169,8 @@ module _ {J : List Visit} {packet : ℕ} {route : List ℕ} {fate : Fate} (w : I
   count-from : (v : Visit) → Among v J → v.packet ≡ packet → (test : Visit → Bool)
       → many (from_hop packet v.hop test) J ≡ as_number (test v) + many (from_hop packet (suc v.hop) test) J
   count-from v among is test =
-      let split = many-split (from_hop packet v.hop test) (at_hop packet v.hop test) (from_hop packet (suc v.hop) test) J (λ u there. from_hop-split packet v.hop test u) in
+      let split = many-split (from_hop packet v.hop test) (at_hop packet v.hop test) (from_hop packet (suc v.hop) test) J
+          (λ u there. from_hop-split packet v.hop test u) in
       omega (arith, split, one-here v among is test)
 
   -- a visit counts as its pipe and its step do
@@ -240,7 +245,8 @@ module _ {J : List Visit} {packet : ℕ} {route : List ℕ} {fate : Fate} (w : I
   counted-way has pipe blind = whole ∙ from-start route refl
     where
       whole : many (λ v. eqb v.packet packet && to_pipe has pipe v) J ≡ many (from_hop packet 0 (to_pipe has pipe)) J
-      whole = many-same (λ v. eqb v.packet packet && to_pipe has pipe v) (from_hop packet 0 (to_pipe has pipe)) J (λ v among. rw (le-leb 0 v.hop (omega arith)) refl)
+      whole = many-same (λ v. eqb v.packet packet && to_pipe has pipe v) (from_hop packet 0 (to_pipe has pipe)) J (λ v among. rw
+          (le-leb 0 v.hop (omega arith)) refl)
 
       from-start : (rest : List ℕ) → route ≡ rest → many (from_hop packet 0 (to_pipe has pipe)) J ≡ step_count has pipe (way_of rest fate)
       from-start [] is = nothing-beyond 0 (let none : length route ≡ 0 = ap length is in omega arith) (to_pipe has pipe)
