@@ -45,6 +45,6 @@ many-by_packet test (v ∷ J) ps rise named =
     let its = named v (inl refl) in
     let one = one_packet v.packet (test v) ps rise its.0 its.1 its.2 in
     let split = sum_by-plus (λ p. many (λ w. eqb w.packet p.number && test w) (v ∷ J)) (λ p. as_number (eqb v.packet p.number && test v))
-        (λ p. many (λ w. eqb w.packet p.number && test w) J) ps
+    (λ p. many (λ w. eqb w.packet p.number && test w) J) ps
     (λ p. many-cons (λ w. eqb w.packet p.number && test w) v J) in
     omega (arith, rest, one, split, many-cons test v J)

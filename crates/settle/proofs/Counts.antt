@@ -43,7 +43,7 @@ counts pipe passed lost full = record { pipe = pipe; passed = passed; lost = los
 
 counted-is : (pipe passed lost full : ℕ) (s : Step)
     → counts pipe (passed + cond (has_passed s) 1 0) (lost + cond (has_lost s) 1 0) (full + cond (has_found_full s) 1 0) ≡ counted
-        (counts pipe passed lost full) s
+    (counts pipe passed lost full) s
 counted-is pipe passed lost full Lost = simp add-zero
 counted-is pipe passed lost full Full = simp add-zero
 counted-is pipe passed lost full (Pass exit) = simp add-zero
@@ -57,7 +57,11 @@ counts_by-here pipe ways m here =
 counts_by-elsewhere : (pipe : ℕ) (ways : List (ℕ × Step)) (m : ℕ × Step) → (m.0 ≡ pipe → ⊥)
     → counts_by (ways ++ m ∷ []) pipe ≡ counts_by ways pipe
 counts_by-elsewhere pipe ways m elsewhere =
-    rw (count_elsewhere has_passed pipe ways m elsewhere, count_elsewhere has_lost pipe ways m elsewhere, count_elsewhere has_found_full pipe ways m elsewhere) refl
+    rw (
+      count_elsewhere has_passed pipe ways m elsewhere,
+      count_elsewhere has_lost pipe ways m elsewhere,
+      count_elsewhere has_found_full pipe ways m elsewhere,
+    ) refl
 
 at_index : (g : ℕ → PipeCounts) (n k : ℕ) (all : List PipeCounts) (e : PipeCounts) → all ≡ map g (range_with_len 0 n) → k < n
     → get_or all k e ≡ g k
@@ -155,7 +159,7 @@ counting-writes : {route : List ℕ} {fate : Fate} {i pipe : ℕ} {step : Step} 
 counting-writes {route} {fate} {i} {pipe} {step} {before} {now} {more} {x} {y} c w named ways pipes is =
     let here : get_or route i 0 < length before = named i 0 w.within in
     counted_step pipes (ways ++ passes (take i route)) pipe step now more x y (omega
-        (arith, w.pipe_is, c.long)) w.written w.counted_is w.read (c.tallied ways pipes is)
+    (arith, w.pipe_is, c.long)) w.written w.counted_is w.read (c.tallied ways pipes is)
     ∙ ap (λ ms. map (counts_by ms) (range_with_len 0 pipes)) (append_assoc ways (passes (take i route)) ((pipe, step) ∷ []))
 
 -- the packet passed one pipe more

@@ -16,7 +16,7 @@ use Rattle.settle.proofs.InOrder.{tick_and_packet, pair_cmp, leavings-rise, pack
 -- a list of fates beside the packets is the packets, each with its fate
 leavings-beside : (fate : PacketPlan → Fate) (ps : List PacketPlan) (bytes : List (List ℕ))
     → filter_map (λ p. leaving_of p.0.0.number p.1 p.0.1) (zip (zip ps (map fate ps)) bytes) ≡ filter_map (λ p. leaving_of p.0.number p.1
-        (fate p.0)) (zip ps bytes)
+    (fate p.0)) (zip ps bytes)
 leavings-beside fate [] bytes = refl
 leavings-beside fate (p ∷ ps) [] = refl
 leavings-beside fate (p ∷ ps) (b ∷ bytes) =

@@ -63,8 +63,11 @@ module _ (S : SetupView) (is : IsSetup S) where
       → more ≤ ROUTE_PIPES_MAX → IsTally all more
   tally-below index all more counted within short =
       let front : length (take index S.packets) ≡ index = length-take-le index S.packets within in
-      let few = packets-few 0 PACKETS_MAX S.packets is.numbers_rise (λ p among. (omega arith, All-Among (λ
-          (q : PacketPlan). q.number < PACKETS_MAX) p S.packets is.numbers_most among)) in
+      let few = packets-few 0 PACKETS_MAX S.packets is.numbers_rise (λ p among. (
+        omega arith,
+        All-Among (λ
+            (q : PacketPlan). q.number < PACKETS_MAX) p S.packets is.numbers_most among,
+      )) in
       let ways = length-ways S (fate_of S) (take index S.packets) (λ p among. route-short p (among-take index S.packets p among)) in
       record {
         ways = ways_of S (fate_of S) (take index S.packets);
@@ -91,7 +94,7 @@ module _ (S : SetupView) (is : IsSetup S) where
       → fates ≡ map (fate_of S) S.packets → fate ≡ get_or fates index fate
       → ((p : PacketPlan) → slice_get S.packets index ≡ Some p → route ≡ route_of S p.number)
       → ((ways : List (ℕ × Step)) (pipes : ℕ) → all ≡ map (counts_by ways) (range_with_len 0 pipes) → more ≡ map (counts_by
-          (ways ++ way_of route fate)) (range_with_len 0 pipes))
+      (ways ++ way_of route fate)) (range_with_len 0 pipes))
       → CountsBelow S (index + 1) more
   below-more index all more route fate fates counted within fates_are fate_is route_is writes =
       writes (ways_of S (fate_of S) (take index S.packets)) (length S.pipes) counted
@@ -126,7 +129,7 @@ module _ (S : SetupView) (is : IsSetup S) where
       counted
       ∙ ap (λ ps. map (counts_by (ways_of S (fate_of S) ps)) (range_with_len 0 (length S.pipes))) (take_all index S.packets far)
       ∙ map-same (counts_by (ways_of S (fate_of S) S.packets)) (counts_of (journal_of S)) (counts_by-ways (journal-walks S is))
-          (range_with_len 0 (length S.pipes))
+      (range_with_len 0 (length S.pipes))
     where
       map-same : (f g : ℕ → PipeCounts) → ((q : ℕ) → f q ≡ g q) → (qs : List ℕ) → map f qs ≡ map g qs
       map-same f g same [] = refl

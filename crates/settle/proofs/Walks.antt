@@ -170,7 +170,7 @@ module _ {J : List Visit} {packet : ℕ} {route : List ℕ} {fate : Fate} (w : I
       → many (from_hop packet v.hop test) J ≡ as_number (test v) + many (from_hop packet (suc v.hop) test) J
   count-from v among is test =
       let split = many-split (from_hop packet v.hop test) (at_hop packet v.hop test) (from_hop packet (suc v.hop) test) J
-          (λ u there. from_hop-split packet v.hop test u) in
+      (λ u there. from_hop-split packet v.hop test u) in
       omega (arith, split, one-here v among is test)
 
   -- a visit counts as its pipe and its step do

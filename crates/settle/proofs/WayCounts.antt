@@ -26,15 +26,20 @@ module _ {S : SetupView} {J : List Visit} {fate : PacketPlan → Fate} (a : AreW
   visit_count-ways has blind =
       many-by_packet (to_pipe has pipe) J S.packets a.rise a.named
       ∙ sum_by-same (λ p. many (λ v. eqb v.packet p.number && to_pipe has pipe v) J) (λ p. step_count has pipe (way_of (route_of S p.number)
-          (fate p))) S.packets
+      (fate p))) S.packets
       (λ p among. counted-way (a.walk p among) has pipe blind)
       ∙ sym (many-flat_map (λ (m : ℕ × Step). eqb m.0 pipe && has m.1) (λ p. way_of (route_of S p.number) (fate p)) S.packets)
 
   -- by the ways the counts of a pipe are those by the visits
   pub counts_by-ways : counts_by (ways_of S fate S.packets) pipe ≡ counts_of J pipe
   counts_by-ways =
-      ap (λ n. record { pipe = pipe; passed = n; lost = step_count has_lost pipe
-          (ways_of S fate S.packets); full = step_count has_found_full pipe (ways_of S fate S.packets) })
+      ap (λ n. record {
+        pipe = pipe;
+        passed = n;
+        lost = step_count has_lost pipe
+            (ways_of S fate S.packets);
+        full = step_count has_found_full pipe (ways_of S fate S.packets);
+      })
       (sym (visit_count-ways has_passed (λ x y. refl)))
       ∙ ap (λ n. record { pipe = pipe; passed = visit_count has_passed pipe J; lost = n; full = step_count has_found_full pipe (ways_of S fate S.packets) })
       (sym (visit_count-ways has_lost (λ x y. refl)))

@@ -12,7 +12,8 @@ use Rattle.topo.specs.Faults.{link_count_fault}
 
 -- links of a front with one edge more are too many: so are those of all edges, which are no fewer
 pub too_many_links : (directed : Bool) (find : ℕ → Option ℕ) (edges : List EdgeSpec) (i : ℕ) (d : EdgeSpec)
-    {before now : List Link} → i < length edges → before ≡ links_of directed find (take i edges) → now ≡ before ++ links_of_edge directed find (get_or edges i d)
+    {before now : List Link} → i < length edges → before ≡ links_of directed find (take i edges)
+    → now ≡ before ++ links_of_edge directed find (get_or edges i d)
     → LINKS_MAX < length now → link_count_fault directed find edges ≡ Some (TooMany many.Links)
 too_many_links directed find edges i d {before} within so_far more many =
     let front = length-flat_map-take (links_of_edge directed find) edges i d within in

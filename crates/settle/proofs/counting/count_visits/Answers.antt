@@ -18,9 +18,10 @@ count_way-requires-clause-named c =
 
 pub loop-index-preserved : goal.loop-index-preserved
 loop-index-preserved c =
-    below-more c.args.setup.now c.parts.ensures.kept c.loop-index.index c.loop-index.all.items c.count_way.new.all.items c.route_at.result.now _ c.args.fates.now
+    below-more c.args.setup.now c.parts.ensures.kept c.loop-index.index c.loop-index.all.items c.count_way.new.all.items
+    c.route_at.result.now _ c.args.fates.now
     c.loop-index.invariant c.loop-index-test.true c.requires.fates
-        (get_or_default c.args.fates.now c.loop-index.index _ _ c.loop-index-test.true) c.route_at.ensures.route c.count_way.ensures
+    (get_or_default c.args.fates.now c.loop-index.index _ _ c.loop-index-test.true) c.route_at.ensures.route c.count_way.ensures
 
 pub returns : goal.returns
 returns c =

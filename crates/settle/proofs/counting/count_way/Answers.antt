@@ -7,7 +7,8 @@ pub with_visit-requires : goal.with_visit-requires
 with_visit-requires c = counting-room c.loop-pipe.invariant c.requires.tally c.requires.named c.loop-pipe-test.true refl c.index.ensures
 
 pub with_visit-requires-in-loop-pipe : goal.with_visit-requires-in-loop-pipe
-with_visit-requires-in-loop-pipe c = counting-room c.loop-pipe.invariant c.requires.tally c.requires.named c.loop-pipe-test.true refl c.index-in-loop-pipe.ensures
+with_visit-requires-in-loop-pipe c = counting-room c.loop-pipe.invariant c.requires.tally c.requires.named c.loop-pipe-test.true
+    refl c.index-in-loop-pipe.ensures
 
 pub loop-pipe-preserved : goal.loop-pipe-preserved
 loop-pipe-preserved c =

@@ -8,7 +8,11 @@ use Rattle.pipe.proofs.visits.Pipe.visit.Goals as goal
 comes-lost : (c : goal.Then-lost) → Comes c.self.inside c.args.tick c.in_force_at-self-inside.result
 comes-lost c =
     comes c.self.invariant c.self.view_is c.requires.order c.deref.result.now c.deref.ensures.value
-    (record { within = c.in_force_at-self-inside.ensures.within; params = c.in_force_at-self-inside.ensures.params; ahead = c.in_force_at-self-inside.ensures.ahead })
+    (record {
+      within = c.in_force_at-self-inside.ensures.within;
+      params = c.in_force_at-self-inside.ensures.params;
+      ahead = c.in_force_at-self-inside.ensures.ahead;
+    })
 
 drops-lost : (c : goal.Then-lost) → Drops (view_of c.self.inside) c.args.tick c.in_force_at-self-inside.result.params c.drop_finished.new.times.items
 drops-lost c =
@@ -35,7 +39,11 @@ returns-then-lost-clause-stands c =
 comes-full : (c : goal.Then-len-params) → Comes c.self.inside c.args.tick c.in_force_at-self-inside.result
 comes-full c =
     comes c.self.invariant c.self.view_is c.requires.order c.deref.result.now c.deref.ensures.value
-    (record { within = c.in_force_at-self-inside.ensures.within; params = c.in_force_at-self-inside.ensures.params; ahead = c.in_force_at-self-inside.ensures.ahead })
+    (record {
+      within = c.in_force_at-self-inside.ensures.within;
+      params = c.in_force_at-self-inside.ensures.params;
+      ahead = c.in_force_at-self-inside.ensures.ahead;
+    })
 
 drops-full : (c : goal.Then-len-params) → Drops (view_of c.self.inside) c.args.tick c.in_force_at-self-inside.result.params c.drop_finished.new.times.items
 drops-full c =
@@ -66,7 +74,11 @@ returns-then-len-params-clause-stands c =
 comes-pass : (c : goal.After-struct_known-2-1) → Comes c.self.inside c.args.tick c.in_force_at-self-inside.result
 comes-pass c =
     comes c.self.invariant c.self.view_is c.requires.order c.deref.result.now c.deref.ensures.value
-    (record { within = c.in_force_at-self-inside.ensures.within; params = c.in_force_at-self-inside.ensures.params; ahead = c.in_force_at-self-inside.ensures.ahead })
+    (record {
+      within = c.in_force_at-self-inside.ensures.within;
+      params = c.in_force_at-self-inside.ensures.params;
+      ahead = c.in_force_at-self-inside.ensures.ahead;
+    })
 
 drops-pass : (c : goal.After-struct_known-2-1) → Drops
     (view_of c.self.inside) c.args.tick c.in_force_at-self-inside.result.params c.drop_finished.new.times.items
