@@ -5,7 +5,7 @@ ghost use Rattle.mn_base.specs.Refused.{IfFault};
 ghost use Rattle.distill.specs.Distilled.{ArePipesOfParts, IsDistilled, IsPipeAmong};
 ghost use Rattle.distill.specs.Modes.{IsMode, parts_of};
 ghost use Rattle.distill.specs.PipeCount.{HasPartsCount, HasPipeCount};
-ghost use Rattle.distill.specs.Sound.{AreSound};
+ghost use Rattle.distill.specs.Sound.{AreChosen, AreSound};
 
 use crate::distilled::Distilled;
 use crate::links::{graph_of, kept_pipes, links_at};
@@ -17,7 +17,7 @@ use mn_base::limits::{FRONTIERS_MAX, PIPES_MAX};
 use mn_base::{NoMemory, Refusal};
 use routes::Incoming;
 use std::alloc::Global;
-use topo::Topology;
+use topo::{Link, Topology};
 use walk_out::{Parts, hop, walk_in, walk_out};
 
 /// The distilled topology of a topology in a mode, with ticks of `tick_ns` ns.
@@ -68,17 +68,48 @@ fn pipes_of(
     ensures too_many { IfErr result (λ e. IfFault e
         (λ f. HasPartsCount topology.now.links parts.now f.count × (PIPES_MAX < f.count))) }
 {
-    let links = topology.links();
-    let middle = links_at(alloc, links, &parts.middle)?;
-    let graph = graph_of(alloc, topology.nodes().len() as u32, &middle)?;
+    let kept = chosen_links(alloc, topology, &parts.kept)?;
+    let middle = chosen_links(alloc, topology, &parts.middle)?;
+    pipes_over(alloc, topology, parts, &kept, &middle, tick_ns)
+}
+
+/// The topology's links of these numbers.
+fn chosen_links(alloc: Global, topology: &Topology, numbers: &[u32]) -> Result<Vec<Link>, NoMemory>
+    requires numbers { All (λ e. e < length topology.now.links) numbers.now }
+    requires few { length numbers.now ≤ length topology.now.links }
+    ensures { IfOk result (λ v. AreChosen topology.now numbers.now v.items) }
+{
+    links_at(alloc, topology.links(), numbers)
+}
+
+/// The pipes of parts whose links are at hand. Pairs are counted before memory for pipes is taken.
+fn pipes_over(
+    alloc: Global,
+    topology: &Topology,
+    parts: &Parts,
+    kept: &[Link],
+    middle: &[Link],
+    tick_ns: u64,
+) -> Result<Vec<DistilledPipe>, Refusal<TooManyPipes>>
+    requires parts { AreSound topology.now parts.now }
+    requires kept { AreChosen topology.now parts.now.kept kept.now }
+    requires middle { AreChosen topology.now parts.now.middle middle.now }
+    requires tick { IsTickLength tick_ns }
+    ensures pipes { IfOk result (λ pipes. ArePipesOfParts tick_ns topology.now.links parts.now pipes.items) }
+    ensures count { IfOk result (λ pipes. HasPartsCount topology.now.links parts.now (length pipes.items)) }
+    ensures few { IfOk result (λ pipes. length pipes.items ≤ PIPES_MAX) }
+    ensures below { IfOk result (λ pipes. All (IsPipeAmong (length topology.now.nodes)) pipes.items) }
+    ensures too_many { IfErr result (λ e. IfFault e
+        (λ f. HasPartsCount topology.now.links parts.now f.count × (PIPES_MAX < f.count))) }
+{
+    let graph = graph_of(alloc, topology.nodes().len() as u32, middle)?;
     let incoming = Incoming::new(alloc, &graph)?;
-    let count = parts.kept.len() as u64 + count_pairs(alloc, &incoming, &parts.border)?;
+    let count = kept.len() as u64 + count_pairs(alloc, &incoming, &parts.border)?;
     if count > PIPES_MAX as u64 {
         return Err(Refusal::Fault(TooManyPipes { count }));
     }
-    let kept = links_at(alloc, links, &parts.kept)?;
-    let mut pipes = kept_pipes(alloc, &kept, tick_ns)?;
-    let mesh = mesh_of(alloc, &incoming, &middle, &parts.border, tick_ns)?;
+    let mut pipes = kept_pipes(alloc, kept, tick_ns)?;
+    let mesh = mesh_of(alloc, &incoming, middle, &parts.border, tick_ns)?;
     pipes.extend_from_slice(&mesh)?;
     Ok(pipes)
 }
