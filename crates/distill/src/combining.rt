@@ -1,7 +1,7 @@
 ghost use Rattle.std.specs.Prelude.{◌≡◌, ◌<◌, ◌≤◌, length, All};
-ghost use Rattle.mn_base.specs.declared.limits.TheConstants.{NODES_MAX};
+ghost use Rattle.mn_base.specs.declared.limits.TheConstants.{KEEP_MAX, NODES_MAX};
 ghost use Rattle.mn_base.specs.Ranges.{AreInRange, IsTickLength};
-ghost use Rattle.distill.specs.Combination.{narrower, StandsFor};
+ghost use Rattle.distill.specs.Combination.{keep_along, narrower, StandsFor};
 
 use crate::pipes::DistilledPipe;
 use mn_base::limits::KEEP_MAX;
@@ -18,18 +18,30 @@ pub(crate) fn pipe_along(links: &[Link], from: u32, to: u32, tick_ns: u64) -> Di
 {
     let mut narrow = links[0];
     let mut us = 0u64;
-    let mut keep = KEEP_MAX;
     for link in links {
         narrow = narrower(narrow, *link);
         us += u64::from(link.latency_us);
-        keep = keep_both(keep, keep_of_ppm(link.ppm));
     }
+    let keep = keep_along(links);
     DistilledPipe {
         from,
         to,
         params: PipeParams::new(narrow.bps, us, narrow.queue, keep, tick_ns),
         links: links.len() as u32,
     }
+}
+
+/// The keeps of links, combined from the first to the last.
+fn keep_along(links: &[Link]) -> u64
+    requires { All (λ l. AreInRange l.bps l.latency_us l.queue l.ppm) links.now }
+    ensures value { result ≡ keep_along links.now }
+    ensures most { result ≤ KEEP_MAX }
+{
+    let mut keep = KEEP_MAX;
+    for index in 0..links.len() {
+        keep = keep_both(keep, keep_of_ppm(links[index].ppm));
+    }
+    keep
 }
 
 /// Of two links the one of less bandwidth, or the first where they have the same.

@@ -1,8 +1,8 @@
 use Rattle.std.proofs.Common.{◌≡◌, ◌*◌, ◌≤◌, fold, take, slice_index_or}
-use Rattle.mn_base.specs.declared.limits.TheConstants.{LINK_LATENCY_US_MAX, KEEP_MAX}
+use Rattle.mn_base.specs.declared.limits.TheConstants.{LINK_LATENCY_US_MAX}
 use Rattle.mn_base.specs.Ranges.{AreInRange}
 use Rattle.walk_out.specs.Parts.{no_link}
-use Rattle.distill.specs.Combination.{narrower, us_along, keep_along}
+use Rattle.distill.specs.Combination.{narrower, us_along}
 use Rattle.distill.proofs.combining.pipe_along.Given as goal
 
 abbrev pub invariant-loop-link : goal.invariant-loop-link
@@ -11,6 +11,4 @@ invariant-loop-link l = record {
   values : AreInRange l.narrow.bps l.narrow.latency_us l.narrow.queue l.narrow.ppm;
   us : l.us ≡ us_along (take l.link-index l.links);
   us_most : l.us ≤ l.link-index * LINK_LATENCY_US_MAX;
-  keep : l.keep ≡ keep_along (take l.link-index l.links);
-  keep_most : l.keep ≤ KEEP_MAX;
 }

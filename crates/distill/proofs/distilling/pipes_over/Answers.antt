@@ -23,7 +23,7 @@ returns c =
     let mesh_border : c.deref-2.result.now ≡ parts.border = c.deref-2.ensures.value ∙ border_is in
     let count_border : c.deref.result.now ≡ parts.border = c.deref.ensures.value ∙ border_is in
     let arcs_are : c.in_ok-incoming.incoming.arcs ≡ arcs_of c.args.middle.now =
-        ap (λ (g : GraphView). g.arcs) c.in_ok-incoming.ensures ∙ c.in_ok-graph.ensures.arcs in
+    ap (λ (g : GraphView). g.arcs) c.in_ok-incoming.ensures ∙ c.in_ok-graph.ensures.arcs in
     let made : AreMade c.args.tick_ns links parts kept mesh c.extend_from_slice.new.self.items = record {
       kept_are = subst (λ (ls : List Link). AllZip (IsKept c.args.tick_ns) ls kept) c.requires.kept.are c.in_ok-pipes.ensures;
       mesh_is =
@@ -32,9 +32,9 @@ returns c =
       pipes_are = c.in_ok-extend_from_slice.ensures.items ∙ ap (λ (ps : List DistilledPipe). kept ++ ps) c.deref-3.ensures.value;
     } in
     let counted : HasPairCount (arcs_of (links_at links parts.middle)) parts.border c.in_ok-count.field-0 =
-        subst (λ (b : List ℕ). HasPairCount (arcs_of (links_at links parts.middle)) b c.in_ok-count.field-0) count_border
-        (subst (λ arcs. HasPairCount arcs c.deref.result.now c.in_ok-count.field-0)
-        (arcs_are ∙ ap arcs_of c.requires.middle.are) c.in_ok-count.ensures.counted) in
+    subst (λ (b : List ℕ). HasPairCount (arcs_of (links_at links parts.middle)) b c.in_ok-count.field-0) count_border
+    (subst (λ arcs. HasPairCount arcs c.deref.result.now c.in_ok-count.field-0)
+    (arcs_are ∙ ap arcs_of c.requires.middle.are) c.in_ok-count.ensures.counted) in
     let total = made_count made counted in
     record {
       pipes = are_pipes made;
