@@ -114,11 +114,11 @@ pub record AreMarked (t : TopologyView) (gs : List (List ℕ)) (w o : ℕ) (oute
   pub near_are : (v : ℕ) → near v ≡ is_beside t.links inmost v
   pub first_are : (v : ℕ) → first v ≡ is_in v (get_or gs w [])
 
--- the border and the parts, by these marks
-pub walk_out_border-is : (t : TopologyView) (gs : List (List ℕ)) (w o n : ℕ) (outer inmost near first : ℕ → Bool) (border : List ℕ)
+-- the border is that of walk-out, since each node's marks are
+pub walk_out_border-is : {t : TopologyView} {gs : List (List ℕ)} {w o n : ℕ} {outer inmost near first : ℕ → Bool} {border : List ℕ}
     → AreMarked t gs w o outer inmost near first
     → n ≡ length t.nodes → border ≡ filter (λ v. first v || (not (outer v) && near v)) (range_with_len 0 n) → border ≡ walk_out_border t gs w o
-walk_out_border-is t gs w o n outer inmost near first border m size is =
+walk_out_border-is {t} {gs} {w} {o} {n} {outer} {inmost} {near} {first} m size is =
     is ∙ ap (λ k. filter (λ v. first v || (not (outer v) && near v)) (range_with_len 0 k)) size
     ∙ filter-same _ _ (range_with_len 0 (length t.nodes)) at
   where
