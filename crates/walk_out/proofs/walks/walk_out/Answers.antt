@@ -10,11 +10,13 @@ use Rattle.walk_out.specs.WalkOut.{core_of, is_outer, walk_out_border}
 use Rattle.walk_out.proofs.Outer.{reads, HasBelow, items_of, items_of-take, core_of-is, AreMarked, walk_out_border-is, parts_around-same, All-core}
 use Rattle.walk_out.proofs.walks.walk_out.Goals as goal
 
+-- There are more frontiers than are walked.
 pub slice_bounds-add_all-end : goal.slice_bounds-add_all-end
 slice_bounds-add_all-end c =
     let r = reads c.args.topology.now FRONTIERS_MAX c.args.frontiers.now c.requires.frontiers in
     sym (length-take-le c.args.w c.args.frontiers.now (omega (arith, r.count, c.requires.w)))
 
+-- Frontiers have nodes alone, and a set has a mark for each node.
 pub add_all-requires : goal.add_all-requires
 add_all-requires c =
     let r = reads c.args.topology.now FRONTIERS_MAX c.args.frontiers.now c.requires.frontiers in
@@ -23,6 +25,7 @@ add_all-requires c =
     All-take (HasBelow (length c.in_ok-outer.outer)) c.args.w c.args.frontiers.now
     (subst (λ m. All (HasBelow m) c.args.frontiers.now) (sym n) r.below)
 
+-- So has the core, which is cut out of them.
 pub add_all-requires-2 : goal.add_all-requires-2
 add_all-requires-2 c =
     let r = reads c.args.topology.now FRONTIERS_MAX c.args.frontiers.now c.requires.frontiers in
