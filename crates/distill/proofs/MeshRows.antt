@@ -103,11 +103,12 @@ source_count_next arcs nodes b i d count is distinct within s iff =
     subst (λ (ns : List ℕ). HasSourceCount arcs ns b (count + (if is then 1 else 0))) (sym (take_more nodes i d within))
     (source_count_more arcs (take i nodes) b (get_or nodes i d) count is (not_before nodes i d distinct within) s iff)
 
-pub row_next : (tick_ns : ℕ) (middle : List Link) (nodes : List ℕ) (b i d : ℕ) (row row' : List DistilledPipe)
+-- so it is for rows
+pub row_next : {tick_ns : ℕ} {middle : List Link} (nodes : List ℕ) {b : ℕ} (i d : ℕ) {row row' : List DistilledPipe}
     (found : Option DistilledPipe) → AreDistinct nodes → i < length nodes
     → IsRow tick_ns middle (take i nodes) b row → IsPipeFrom tick_ns middle (get_or nodes i d) b found → row' ≡ row ++ option_to_list found
     → IsRow tick_ns middle (take (i + 1) nodes) b row'
-row_next tick_ns middle nodes b i d row row' found distinct within r is pushed =
+row_next {tick_ns} {middle} nodes {b} i d {row} {row'} found distinct within r is pushed =
     subst (λ (ns : List ℕ). IsRow tick_ns middle ns b row') (sym (take_more nodes i d within))
     (subst (IsRow tick_ns middle (take i nodes ++ get_or nodes i d ∷ []) b) (sym pushed)
     (row_more tick_ns middle (take i nodes) b (get_or nodes i d) row found (not_before nodes i d distinct within) r is))
