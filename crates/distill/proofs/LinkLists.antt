@@ -27,10 +27,11 @@ AllZip-push R (z ∷ xs) [] x y all here = absurd all
 AllZip-push R (z ∷ xs) (w ∷ ys) x y all here = (all.0, AllZip-push R xs ys x y all.1 here)
 
 -- the pipe of one link more
-pub kept_more : (tick_ns : ℕ) (links : List Link) (pipes pipes' : List DistilledPipe) (i : ℕ) (d : Link) (pipe : DistilledPipe) → i < length links
+pub kept_more : (tick_ns : ℕ) (links : List Link) (pipes : List DistilledPipe) {pipes' : List DistilledPipe} (i : ℕ) (d : Link)
+    {pipe : DistilledPipe} → i < length links
     → AllZip (IsKept tick_ns) (take i links) pipes → IsKept tick_ns (get_or links i d) pipe → pipes' ≡ pipes ++ pipe ∷ []
     → AllZip (IsKept tick_ns) (take (i + 1) links) pipes'
-kept_more tick_ns links pipes pipes' i d pipe within all here pushed =
+kept_more tick_ns links pipes {pipes'} i d {pipe} within all here pushed =
     subst (λ ps. AllZip (IsKept tick_ns) (take (i + 1) links) ps) (sym pushed)
     (subst (λ ls. AllZip (IsKept tick_ns) ls (pipes ++ pipe ∷ [])) (sym (take_more links i d within))
     (AllZip-push (IsKept tick_ns) (take i links) pipes (get_or links i d) pipe all here))

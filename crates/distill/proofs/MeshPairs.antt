@@ -117,11 +117,11 @@ row-ends b (pipe ∷ row) to =
     ap (λ (v : ℕ). (pipe.from, v) ∷ map ends_of row) (to pipe (inl refl))
     ∙ ap (λ l. (pipe.from, b) ∷ l) (row-ends b row (λ p there. to p (inr there)))
 
-pub pipes_next : (tick_ns : ℕ) (middle : List Link) (border : List ℕ) (i d : ℕ) (mesh mesh' row : List DistilledPipe) → AreDistinct border
+pub pipes_next : {tick_ns : ℕ} {middle : List Link} {border : List ℕ} (i d : ℕ) {mesh mesh' row : List DistilledPipe} → AreDistinct border
     → i < length border
     → ArePipesInto tick_ns middle border (take i border) mesh → IsRow tick_ns middle border (get_or border i d) row → mesh' ≡ mesh ++ row
     → ArePipesInto tick_ns middle border (take (i + 1) border) mesh'
-pipes_next tick_ns middle border i d mesh mesh' row distinct within p r pushed =
+pipes_next {tick_ns} {middle} {border} i d {mesh} {mesh'} {row} distinct within p r pushed =
     let b = get_or border i d in
     let grown = one_target_more (arcs_of middle) border (take i border) b (map ends_of mesh) (starts_of row)
     (not_before border i d distinct within) (Among-place border i d within) p.ends r.starts in

@@ -96,10 +96,10 @@ row_more tick_ns middle nodes b a row (Some pipe) new r (source, from, to, least
 }
 
 -- the same, where the nodes are those in front of a place and the one there
-pub source_count_next : (arcs : List Arc) (nodes : List ℕ) (b i d count : ℕ) (is : Bool) → AreDistinct nodes → i < length nodes
+pub source_count_next : {arcs : List Arc} (nodes : List ℕ) {b : ℕ} (i d : ℕ) {count : ℕ} (is : Bool) → AreDistinct nodes → i < length nodes
     → HasSourceCount arcs (take i nodes) b count
     → IsTrue is ↔ IsSource arcs b (get_or nodes i d) → HasSourceCount arcs (take (i + 1) nodes) b (count + (if is then 1 else 0))
-source_count_next arcs nodes b i d count is distinct within s iff =
+source_count_next {arcs} nodes {b} i d {count} is distinct within s iff =
     subst (λ (ns : List ℕ). HasSourceCount arcs ns b (count + (if is then 1 else 0))) (sym (take_more nodes i d within))
     (source_count_more arcs (take i nodes) b (get_or nodes i d) count is (not_before nodes i d distinct within) s iff)
 

@@ -7,11 +7,11 @@ use Rattle.distill.proofs.meshing.count_sources.Goals as goal
 pub loop-source-init : goal.loop-source-init
 loop-source-init c = record { counted = no_source_count c.args.routes.now.graph.arcs c.args.target; few = omega arith }
 
+-- One source more counts where it is joined, as it stands nowhere before.
 pub loop-source-preserved : goal.loop-source-preserved
 loop-source-preserved c =
-    let next = source_count_next c.args.routes.now.graph.arcs c.args.sources.now c.args.target c.loop-source.source-index _
-    c.loop-source.count c.is_source.result c.requires.distinct c.loop-source-test.true c.loop-source.invariant.counted
-    c.is_source.ensures in
+    let next = source_count_next c.args.sources.now c.loop-source.source-index _ c.is_source.result c.requires.distinct
+    c.loop-source-test.true c.loop-source.invariant.counted c.is_source.ensures in
     record {
       counted = subst (λ (n : ℕ). HasSourceCount c.args.routes.now.graph.arcs
           (take (c.loop-source.source-index + 1) c.args.sources.now) c.args.target (c.loop-source.count + n))
