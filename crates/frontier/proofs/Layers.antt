@@ -42,10 +42,10 @@ frontier_after-is t k before reached last next same reaches is_last is =
     ∙ sym (frontiers_of-more t k)
 
 -- and after it
-pub reached-more : (t : TopologyView) (k v : ℕ) (before : List (List ℕ)) (next : List ℕ) (reached reached' : Bool) → before ≡ frontiers_of t k
+pub reached-more : (t : TopologyView) (k v : ℕ) {before : List (List ℕ)} (next : List ℕ) {reached reached' : Bool} → before ≡ frontiers_of t k
     → before ++ next ∷ [] ≡ frontiers_of t (k + 1) → reached ≡ is_in_one v (frontiers_of t k) → reached' ≡ (reached || is_in v next)
     → reached' ≡ is_in_one v (frontiers_of t (k + 1))
-reached-more t k v before next reached reached' same more so_far now =
+reached-more t k v {before} next {reached} {reached'} same more so_far now =
     now ∙ ap (λ b. b || is_in v next) (so_far ∙ ap (is_in_one v) (sym same)) ∙ sym (is_in_one-push v before next) ∙ ap (is_in_one v) more
 
 -- an empty list joins no node to it
