@@ -56,8 +56,8 @@ made_count {tick_ns} {links} {parts} {kept} {mesh} {pipes} {count} made counted 
     omega (arith, ap length made.pipes_are, length-append kept mesh)
 
 -- their ends are nodes
-kept_among : (tick_ns n : ℕ) (links : List Link) (kept : List DistilledPipe) → AllZip (IsKept tick_ns) links kept → All (IsLink n) links
-    → All (IsPipeAmong n) kept
+kept_among : (tick_ns n : ℕ) (links : List Link) (kept : List DistilledPipe)
+    → AllZip (IsKept tick_ns) links kept → All (IsLink n) links → All (IsPipeAmong n) kept
 kept_among tick_ns n [] [] all hold = λ i d within. absurd (omega arith)
 kept_among tick_ns n [] (p ∷ kept) all hold = absurd all
 kept_among tick_ns n (l ∷ links) [] all hold = absurd all
@@ -82,4 +82,7 @@ made_among {tick_ns} {links} {parts} {kept} {mesh} n made hold border =
     meshed i d within =
         let is_mesh = made.mesh_is in
         let is_pair = is_mesh.pairs (get_or mesh i d) (Among-place mesh i d within) in
-        record { from = All-Among (λ v. v < n) _ parts.border border is_pair.from; to = All-Among (λ v. v < n) _ parts.border border is_pair.to }
+        record {
+          from = All-Among (λ v. v < n) _ parts.border border is_pair.from;
+          to = All-Among (λ v. v < n) _ parts.border border is_pair.to;
+        }
