@@ -1,5 +1,5 @@
 -- The setup of a chain keeps the conditions of a setup.
-use Rattle.std.proofs.Common.{◌≡◌, ◌≢◌, ◌≤◌, ◌<◌, ◌^◌, ◌+◌, ◌-◌, ◌*◌, ℕ, zero, suc, List, [], ◌∷◌, length, get_or, map, min, All, AllPairs, sym, ◌∙◌, ap, subst, arith, zero-add, lit≤, lit<}
+use Rattle.std.proofs.Common.{◌≡◌, ◌≢◌, ◌≤◌, ◌<◌, ◌+◌, ◌-◌, ◌*◌, ℕ, zero, suc, List, [], ◌∷◌, length, get_or, map, min, All, AllPairs, sym, ◌∙◌, ap, subst, arith, zero-add, lit≤, lit<}
 use Rattle.std.specs.List.{fold, AllZip, enumerate_from, range_with_len}
 use Rattle.std.proofs.Math.Nat.{div-mul-le_self}
 use Rattle.std.proofs.lemmas.List.{get_or-map, get_or-replicate, length-map, length-replicate}

@@ -4,8 +4,9 @@ use Rattle.mn_base.specs.declared.refusal.Refusal.{Refusal}
 use Rattle.mn_base.specs.declared.refusal.Refusal.TheVariants as refusal
 use Rattle.mn_base.specs.Refused.{IfFault}
 use Rattle.mn_edge.specs.declared.role.Role.TheVariants.{Trace, Out, Report}
-use Rattle.pcap_io.specs.declared.fault.PcapFault.{PcapFault}
-use Rattle.pcap_io.specs.Faults.{PcapFirst}
+use Rattle.pcapng_in.specs.declared.fault.CaptureFault.{CaptureFault}
+use Rattle.pcapng_in.specs.declared.fault.CaptureFault.TheVariants.{Pcap, Ng}
+use Rattle.pcapng_in.specs.CaptureFile.{CaptureFirst}
 use Rattle.modelnet.specs.declared.read_limits.ReadLimits.{ReadLimits}
 use Rattle.modelnet.specs.declared.status.Status.{Status}
 use Rattle.modelnet.specs.declared.status.Status.TheVariants.{Done, NoMemory}
@@ -44,15 +45,16 @@ named_trace limits order trace old new read = subst
     (λ n. ReadsInput (input Trace n limits.trace) (old Trace) (new Trace) (Ok trace)) read.named read.own
 
 -- what the reader and the run answer is out of memory or the first fault
-refused_trace : (trace : List ℕ) (refusal : Refusal PcapFault) → IfFault refusal (PcapFirst trace)
+refused_trace : (trace : List ℕ) (refusal : Refusal CaptureFault) → IfFault refusal (CaptureFirst trace)
     → (trace_refusal refusal ≡ NoMemory) ⊎ chain_refuses (trace ∷ []) (trace_refusal refusal)
 refused_trace trace refusal.NoMemory is = inl refl
-refused_trace trace (refusal.Fault fault) is = inr is
+refused_trace trace (refusal.Fault (Pcap fault)) is = inr is
+refused_trace trace (refusal.Fault (Ng fault)) is = inr is
 
 -- the trace was read whole, and is refused
-pub trace_refused : (limits : ReadLimits) (order : ChainView) (old new : Host) (trace text : List ℕ) (refusal : Refusal PcapFault)
+pub trace_refused : (limits : ReadLimits) (order : ChainView) (old new : Host) (trace text : List ℕ) (refusal : Refusal CaptureFault)
     (status : Status) → HasTrace limits order trace old new
-    → text ≡ trace → IfFault refusal (PcapFirst text) → status ≡ trace_refusal refusal → Answered
+    → text ≡ trace → IfFault refusal (CaptureFirst text) → status ≡ trace_refusal refusal → Answered
     (chain_command limits order) old new status
 trace_refused limits order old new trace text refusal status read same first is =
     let c = chain_command limits order in
@@ -60,7 +62,7 @@ trace_refused limits order old new trace text refusal status read same first is 
     subst (Answered c old new) (sym is) (refuses c [] (input Trace order.trace limits.trace) [] trace
     (trace_refusal refusal) old old new sound (has_begun c old nothing_refused) tt
     (named_trace limits order trace old new read) read.others
-    (refused_trace trace refusal (subst (λ t. IfFault refusal (PcapFirst t)) same first)))
+    (refused_trace trace refusal (subst (λ t. IfFault refusal (CaptureFirst t)) same first)))
 
 -- the trace was read whole, and this is what is to be written
 pub record HasRun (limits : ReadLimits) (order : ChainView) (trace out report : List ℕ) (old new : Host) : Type 0 where

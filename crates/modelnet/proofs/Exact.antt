@@ -5,9 +5,9 @@ use Rattle.std.specs.Io.KnownBytes.{prepend_known, IsAtEnd}
 use Rattle.mn_edge.specs.declared.role.Role.{Role}
 use Rattle.mn_edge.specs.Part.{Part}
 use Rattle.modelnet.specs.declared.status.Status.{Status}
-use Rattle.modelnet.specs.declared.status.Status.TheVariants.{Done, NoMemory, BadWords, BadTrace, ReadFault, WriteFault, TooLarge}
+use Rattle.modelnet.specs.declared.status.Status.TheVariants.{Done, NoMemory, BadWords, BadTrace, ReadFault, WriteFault, TooLarge, BadCapture}
 use Rattle.modelnet.specs.Roles.{Input, WasRead, IsReading}
-use Rattle.modelnet.specs.Commands.{Host, Command, ReadInputs, inputs_of, bytes_read, bytes_written, AreRead, Passes, FewerPass, Answered}
+use Rattle.modelnet.specs.Commands.{Host, Command, ReadInputs, inputs_of, bytes_read, bytes_written, AreRead, Passes, FewerPass, IsRefused, Answered}
 use Rattle.modelnet.specs.Exact.{IsQuiet, IsOrNoMemory, Accepts, MustAnswer, IsSoundCommand}
 
 -- the bytes that were read to the end are all that was told
@@ -111,15 +111,21 @@ at_the_end c sound old new answer reads outs inputs read says last =
       λ accepts quiet. last quiet,
     )
 
+-- the first inputs were read whole and are refused
+at_a_refusal : (c : Command) → IsSoundCommand c → (old new : Host) (answer : Status) → IsRefused c answer old new
+    → MustAnswer c old new [] c.inputs answer
+at_a_refusal c sound old new answer a =
+    whole_command c old new answer a.reads a.later a.inputs a.stands.read a.fewer
+    (refusal_is_due c sound old new (bytes_read a.reads) a.later answer a.refused)
+
 -- the answer of a command is the one that it has to be
 pub must_answer : (c : Command) → IsSoundCommand c → (old new : Host) (answer : Status) → Answered c old new answer → MustAnswer c old new [] c.inputs answer
 must_answer c sound old new Done a =
     at_the_end c sound old new Done a.reads (bytes_written a.writes) a.inputs a.stands.read a.says (λ quiet. inl refl)
 must_answer c sound old new NoMemory a = always_no_memory c old new [] c.inputs
 must_answer c sound old new (BadWords fault) a = absurd a
-must_answer c sound old new (BadTrace fault) a =
-    whole_command c old new (BadTrace fault) a.reads a.later a.inputs a.stands.read a.fewer
-    (refusal_is_due c sound old new (bytes_read a.reads) a.later (BadTrace fault) a.refused)
+must_answer c sound old new (BadTrace fault) a = at_a_refusal c sound old new (BadTrace fault) a
+must_answer c sound old new (BadCapture fault) a = at_a_refusal c sound old new (BadCapture fault) a
 must_answer c sound old new (ReadFault role) a =
     whole_command c old new (ReadFault role) a.reads (a.at ∷ a.later) a.inputs a.stopped.read (pass_fewer c (bytes_read a.reads) a.passes) (
       λ refusal refused. absurd (pass_all c (bytes_read a.reads) a.passes refusal refused),

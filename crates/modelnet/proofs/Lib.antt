@@ -2,6 +2,7 @@ pub mod AsTheyStand
 pub mod ChainSetup
 pub mod ChainSteps
 pub mod Chains
+pub mod Copies
 pub mod Exact
 pub mod OneAfterAnother
 pub mod OneRun

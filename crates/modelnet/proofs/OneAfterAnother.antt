@@ -3,8 +3,8 @@ use Rattle.std.proofs.Common.{◌≡◌, ◌≢◌, ◌≤◌, ◌⊎◌, ℕ, L
 use Rattle.mn_edge.specs.declared.role.Role.{Role}
 use Rattle.mn_edge.specs.Part.{Part}
 use Rattle.modelnet.specs.declared.status.Status.{Status}
-use Rattle.modelnet.specs.declared.status.Status.TheVariants.{Done, NoMemory, BadWords, BadTrace, ReadFault, WriteFault, TooLarge}
-use Rattle.modelnet.specs.Commands.{Host, Command, ReadInputs, WrittenOutputs, inputs_of, bytes_read, outputs_of, bytes_written, ReadsNot, WritesNot, AreRead, AreWritten, Stands, StopsAt, Passes, FewerPass, Answered}
+use Rattle.modelnet.specs.declared.status.Status.TheVariants.{Done, NoMemory, BadWords, BadTrace, ReadFault, WriteFault, TooLarge, BadCapture}
+use Rattle.modelnet.specs.Commands.{Host, Command, ReadInputs, WrittenOutputs, inputs_of, bytes_read, outputs_of, bytes_written, ReadsNot, WritesNot, AreRead, AreWritten, Stands, StopsAt, Passes, FewerPass, IsRefused, Answered}
 use Rattle.modelnet.specs.Exact.{Accepts, IsSoundCommand, IsRefusal}
 use Rattle.modelnet.specs.Roles.{Input, Output, WasRead, WasWritten, IsReadFault, IsTooLarge, IsWriteFault, ReadsInput, WritesOutput}
 
@@ -242,6 +242,7 @@ stops_reading c reads at later (TooLarge role) old mid new so none own others = 
 stops_reading c reads at later Done old mid new so none own others = absurd own
 stops_reading c reads at later (BadWords fault) old mid new so none own others = absurd own
 stops_reading c reads at later (BadTrace fault) old mid new so none own others = absurd own
+stops_reading c reads at later (BadCapture fault) old mid new so none own others = absurd own
 stops_reading c reads at later (WriteFault role) old mid new so none own others = absurd own
 
 -- the next input was read whole, and its bytes are refused
@@ -254,6 +255,16 @@ refuses c reads at later bytes status old mid new sound so none own others (inl 
 refuses c reads at later bytes status old mid new sound so none own others (inr refused) = by_kind status refused
     (sound.refusals (bytes_read reads ++ bytes ∷ []) status refused)
   where
+    by_bytes : (answer : Status) → c.refuses (bytes_read reads ++ bytes ∷ []) answer → IsRefused c answer old new
+    by_bytes answer is = record {
+      reads = reads ++ (at, bytes) ∷ [];
+      later = later;
+      inputs = so.inputs ∙ sym (inputs_push reads (at, bytes) later);
+      fewer = subst (FewerPass c) (sym (bytes_read_push reads (at, bytes))) (fewer_push c (bytes_read reads) bytes so.passes);
+      refused = subst (λ b. c.refuses b answer) (sym (bytes_read_push reads (at, bytes))) is;
+      stands = stands_read reads (at, bytes) old mid new so.stands none others own.0 own.1;
+    }
+
     by_kind : (answer : Status) → c.refuses (bytes_read reads ++ bytes ∷ []) answer → IsRefusal answer → Answered c old new answer
     by_kind Done is none_of = absurd none_of
     by_kind NoMemory is none_of = absurd none_of
@@ -261,14 +272,8 @@ refuses c reads at later bytes status old mid new sound so none own others (inr 
     by_kind (ReadFault role) is none_of = absurd none_of
     by_kind (WriteFault role) is none_of = absurd none_of
     by_kind (TooLarge role) is none_of = absurd none_of
-    by_kind (BadTrace fault) is none_of = record {
-      reads = reads ++ (at, bytes) ∷ [];
-      later = later;
-      inputs = so.inputs ∙ sym (inputs_push reads (at, bytes) later);
-      fewer = subst (FewerPass c) (sym (bytes_read_push reads (at, bytes))) (fewer_push c (bytes_read reads) bytes so.passes);
-      refused = subst (λ b. c.refuses b (BadTrace fault)) (sym (bytes_read_push reads (at, bytes))) is;
-      stands = stands_read reads (at, bytes) old mid new so.stands none others own.0 own.1;
-    }
+    by_kind (BadTrace fault) is none_of = by_bytes (BadTrace fault) is
+    by_kind (BadCapture fault) is none_of = by_bytes (BadCapture fault) is
 
 -- all inputs were read whole, and these bytes are to be written
 pub has_made : (c : Command) (reads : ReadInputs) (outs : List (List ℕ)) (old new : Host) → HasRead c reads [] old new
@@ -321,6 +326,7 @@ stops_writing c reads writes at later bytes later_bytes Done old mid new so unre
 stops_writing c reads writes at later bytes later_bytes NoMemory old mid new so unread unwritten own others = absurd own
 stops_writing c reads writes at later bytes later_bytes (BadWords fault) old mid new so unread unwritten own others = absurd own
 stops_writing c reads writes at later bytes later_bytes (BadTrace fault) old mid new so unread unwritten own others = absurd own
+stops_writing c reads writes at later bytes later_bytes (BadCapture fault) old mid new so unread unwritten own others = absurd own
 stops_writing c reads writes at later bytes later_bytes (ReadFault role) old mid new so unread unwritten own others = absurd own
 stops_writing c reads writes at later bytes later_bytes (TooLarge role) old mid new so unread unwritten own others = absurd own
 

@@ -7,7 +7,8 @@ use Rattle.mn_base.specs.declared.limits.TheConstants.{PIPE_LATENCY_US_MAX, PIPE
 use Rattle.mn_base.specs.Ranges.{IsBandwidth, IsQueueLimit}
 use Rattle.pcap_io.specs.Capture.{Capture}
 use Rattle.pcap_io.specs.Writing.{pcap_text}
-use Rattle.pcap_io.proofs.OneReading.{one_reading}
+use Rattle.pcapng_in.specs.CaptureFile.{SaysTrace}
+use Rattle.pcapng_in.proofs.ByFormat.{one_capture_reading}
 use Rattle.journal.specs.declared.setup.PacketPlan.{PacketPlan}
 use Rattle.journal.specs.declared.setup.PipeChange.{PipeChange}
 use Rattle.journal.specs.declared.setup.LossBy.{LossBy}
@@ -126,5 +127,15 @@ one_chain_run order trace out report out' report' run also =
 pub one_run : (order : ChainView) (trace out report out' report' : List ℕ) → SaysRun order trace out report
     → SaysRun order trace out' report' → (out ≡ out') × (report ≡ report')
 one_run order trace out report out' report' says also =
-    let same = one_reading trace says.trace also.trace says.says also.says in
+    let same = one_capture_reading trace says.trace also.trace says.says also.says in
     one_chain_run order also.trace out report out' report' (subst (λ t. IsChainRun order t out report) same says.run) also.run
+
+-- files that say one trace have the same runs
+pub same_run : (order : ChainView) (text other : List ℕ) (trace : Capture) (out report : List ℕ) → SaysTrace text trace
+    → SaysTrace other trace → SaysRun order text out report → SaysRun order other out report
+same_run order text other trace out report says says_other run =
+    let same = one_capture_reading text run.trace trace run.says says in record {
+      trace = trace;
+      says = says_other;
+      run = subst (λ t. IsChainRun order t out report) same run.run;
+    }

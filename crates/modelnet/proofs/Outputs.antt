@@ -1,5 +1,5 @@
 -- The packets that left can be written as a trace.
-use Rattle.std.proofs.Common.{◌≡◌, ◌≢◌, ◌≤◌, ◌<◌, ◌^◌, ◌*◌, ℕ, zero, suc, List, [], ◌∷◌, length, map, All, AllPairs, IsSome, sym, ◌∙◌, ap, subst, inl, inr, arith}
+use Rattle.std.proofs.Common.{◌≡◌, ◌≢◌, ◌≤◌, ◌<◌, ℕ, zero, suc, List, [], ◌∷◌, length, map, All, AllPairs, IsSome, sym, ◌∙◌, ap, subst, inl, inr, arith}
 use Rattle.mn_base.specs.Among.{Among}
 use Rattle.mn_base.proofs.Members.{Among-from-map}
 use Rattle.mn_base.specs.Times.{output_time}

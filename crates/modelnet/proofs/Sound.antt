@@ -1,16 +1,20 @@
 -- The commands are sound, and so a command line is answered exactly.
 use Rattle.std.proofs.Common.{◌≡◌, ℕ, List, [], ◌∷◌, ◌++◌, Ok, Err, refl, sym, ◌∙◌, ap, subst, inl, inr}
-use Rattle.pcap_io.specs.declared.fault.PcapFault.{PcapFault}
-use Rattle.pcap_io.proofs.OneReading.{no_fault, one_fault}
+use Rattle.mn_base.specs.declared.refusal.Refusal.TheVariants.{Fault}
+use Rattle.pcapng_in.specs.declared.fault.CaptureFault.{CaptureFault}
+use Rattle.pcapng_in.specs.declared.fault.CaptureFault.TheVariants.{Pcap, Ng}
+use Rattle.pcapng_in.specs.CaptureFile.{CaptureFirst}
+use Rattle.pcapng_in.proofs.ByFormat.{never_capture_both, one_capture_fault}
 use Rattle.modelnet.specs.declared.order.Order.{Order}
 use Rattle.modelnet.specs.declared.order.Order.TheVariants.{Chain}
 use Rattle.modelnet.specs.declared.read_limits.ReadLimits.{ReadLimits}
 use Rattle.modelnet.specs.declared.status.Status.{Status}
-use Rattle.modelnet.specs.declared.status.Status.TheVariants.{Done, NoMemory, BadWords, BadTrace, ReadFault, WriteFault, TooLarge}
+use Rattle.modelnet.specs.declared.status.Status.TheVariants.{Done, NoMemory, BadWords, BadTrace, ReadFault, WriteFault, TooLarge, BadCapture}
 use Rattle.modelnet.specs.declared.words_fault.WordsFault.{WordsFault}
 use Rattle.modelnet.specs.Order.{ChainView}
 use Rattle.modelnet.specs.Commands.{Host, ReadsNot, Answered}
 use Rattle.modelnet.specs.Exact.{IsRefusal, IsSoundCommand, IsOrNoMemory}
+use Rattle.modelnet.specs.Statuses.{trace_refusal}
 use Rattle.modelnet.specs.TheCommands.{chain_refuses, chain_writes, chain_command, command_of}
 use Rattle.modelnet.specs.Answers.{IsOrdered, Answers, IsExact, WordsAndBytesHaveOneOutcome}
 use Rattle.modelnet.specs.Words.{ordered}
@@ -21,6 +25,7 @@ use Rattle.modelnet.proofs.OneRun.{one_run}
 
 chain_refusals : (read : List (List ℕ)) (status : Status) → chain_refuses read status → IsRefusal status
 chain_refusals (trace ∷ []) (BadTrace fault) is = tt
+chain_refusals (trace ∷ []) (BadCapture fault) is = tt
 chain_refusals (trace ∷ []) Done is = is
 chain_refusals (trace ∷ []) NoMemory is = is
 chain_refusals (trace ∷ []) (BadWords fault) is = is
@@ -32,8 +37,9 @@ chain_refusals (trace ∷ more ∷ read) status is = absurd is
 
 -- what refuses a trace is its first fault
 refused_by : (trace : List ℕ) (status : Status) → chain_refuses (trace ∷ []) status
-    → (fault : PcapFault) × (status ≡ BadTrace fault) × chain_refuses (trace ∷ []) (BadTrace fault)
-refused_by trace (BadTrace fault) is = (fault, refl, is)
+    → (fault : CaptureFault) × (status ≡ trace_refusal (Fault fault)) × CaptureFirst trace fault
+refused_by trace (BadTrace fault) is = (Pcap fault, refl, is)
+refused_by trace (BadCapture fault) is = (Ng fault, refl, is)
 refused_by trace Done is = absurd is
 refused_by trace NoMemory is = absurd is
 refused_by trace (BadWords fault) is = absurd is
@@ -47,7 +53,7 @@ chain_one_refusal (trace ∷ more ∷ read) one other is also = absurd is
 chain_one_refusal (trace ∷ []) one other is also =
     let first = refused_by trace one is in
     let second = refused_by trace other also in
-    first.1 ∙ ap (λ f. BadTrace f) (one_fault trace first.0 second.0 first.2 second.2) ∙ sym second.1
+    first.1 ∙ ap (λ f. trace_refusal (Fault f)) (one_capture_fault trace first.0 second.0 first.2 second.2) ∙ sym second.1
 
 -- a trace that is replayed has no fault
 chain_never_both : (order : ChainView) (front back written : List (List ℕ)) (status : Status) → chain_refuses front status
@@ -59,7 +65,7 @@ chain_never_both order (trace ∷ []) [] [] status refused says = says
 chain_never_both order (trace ∷ []) [] (out ∷ []) status refused says = says
 chain_never_both order (trace ∷ []) [] (out ∷ report ∷ more ∷ written) status refused says = says
 chain_never_both order (trace ∷ []) [] (out ∷ report ∷ []) status refused says =
-    let first = refused_by trace status refused in no_fault trace says.trace first.0 says.says first.2
+    let first = refused_by trace status refused in never_capture_both trace says.trace first.0 says.says first.2
 
 chain_one_output : (order : ChainView) (read written others : List (List ℕ)) → chain_writes order read written
     → chain_writes order read others → written ≡ others
@@ -107,6 +113,7 @@ answered limits words old new (BadWords fault) order is a =
     let clash : Ok order ≡ Err fault = sym is ∙ a.0 in absurd cc
 answered limits words old new Done order is a = same_order limits words old new Done order is a
 answered limits words old new (BadTrace fault) order is a = same_order limits words old new (BadTrace fault) order is a
+answered limits words old new (BadCapture fault) order is a = same_order limits words old new (BadCapture fault) order is a
 answered limits words old new (ReadFault role) order is a = same_order limits words old new (ReadFault role) order is a
 answered limits words old new (WriteFault role) order is a = same_order limits words old new (WriteFault role) order is a
 answered limits words old new (TooLarge role) order is a = same_order limits words old new (TooLarge role) order is a
@@ -123,6 +130,7 @@ finds_bad_words limits words old new (BadWords given) a fault is =
     let same = sym a.0 ∙ is in let one : given ≡ fault = cc in inl (ap (λ f. BadWords f) one)
 finds_bad_words limits words old new Done a fault is = absurd (no_order words a.order fault a.ordered_is is)
 finds_bad_words limits words old new (BadTrace given) a fault is = absurd (no_order words a.order fault a.ordered_is is)
+finds_bad_words limits words old new (BadCapture given) a fault is = absurd (no_order words a.order fault a.ordered_is is)
 finds_bad_words limits words old new (ReadFault role) a fault is = absurd (no_order words a.order fault a.ordered_is is)
 finds_bad_words limits words old new (WriteFault role) a fault is = absurd (no_order words a.order fault a.ordered_is is)
 finds_bad_words limits words old new (TooLarge role) a fault is = absurd (no_order words a.order fault a.ordered_is is)

@@ -1,6 +1,7 @@
 pub mod Answers
 pub mod Chain
 pub mod Commands
+pub mod Copies
 pub mod Ends
 pub mod Exact
 pub mod Forms

@@ -1,8 +1,8 @@
--- What a chain makes of a trace: the text of the trace that leaves, and the report.
+-- What a chain makes of a trace: the bytes of the trace that leaves, and the report.
 use Rattle.std.specs.Prelude.{◌≡◌, ℕ, List, [], map}
 use Rattle.pcap_io.specs.Capture.{Capture}
-use Rattle.pcap_io.specs.Reading.{Pcap}
 use Rattle.pcap_io.specs.Writing.{pcap_text}
+use Rattle.pcapng_in.specs.CaptureFile.{SaysTrace}
 use Rattle.journal.specs.SetupView.{SetupView}
 use Rattle.journal.specs.Journal.{journal_of}
 use Rattle.settle.specs.OutcomeView.{OutcomeView}
@@ -22,8 +22,8 @@ pub record IsChainRun (order : ChainView) (trace : Capture) (out_text report : L
   pub out_is : out_text ≡ pcap_text (trace_of setup outcome.leaving)
   pub report_is : report ≡ report_text outcome []
 
--- the text says a trace, and these are the texts of its run
+-- the bytes say a trace, in either capture format, and these are the bytes that its run writes
 pub record SaysRun (order : ChainView) (text out_text report : List ℕ) : Type 0 where
   pub trace : Capture
-  pub says : Pcap text trace
+  pub says : SaysTrace text trace
   pub run : IsChainRun order trace out_text report

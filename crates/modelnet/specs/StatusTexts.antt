@@ -3,12 +3,13 @@ use Rattle.std.specs.Prelude.{ℕ, List, [], ◌∷◌, ◌++◌, codes}
 use Rattle.mn_edge.specs.declared.role.Role.{Role}
 use Rattle.mn_edge.specs.declared.role.Role.TheVariants as role
 use Rattle.pcap_io.specs.FaultTexts.{pcap_fault_text}
+use Rattle.pcapng_in.specs.FaultTexts.{ng_fault_text}
 use Rattle.modelnet.specs.declared.words_fault.Opt.{Opt}
 use Rattle.modelnet.specs.declared.words_fault.Opt.TheVariants as opt
 use Rattle.modelnet.specs.declared.words_fault.WordsFault.{WordsFault}
 use Rattle.modelnet.specs.declared.words_fault.WordsFault.TheVariants.{Command, Form, Value}
 use Rattle.modelnet.specs.declared.status.Status.{Status}
-use Rattle.modelnet.specs.declared.status.Status.TheVariants.{Done, NoMemory, BadWords, BadTrace, ReadFault, WriteFault, TooLarge}
+use Rattle.modelnet.specs.declared.status.Status.TheVariants.{Done, NoMemory, BadWords, BadTrace, ReadFault, WriteFault, TooLarge, BadCapture}
 
 -- the program's name, a text, and a line feed
 abbrev pub program_line : List ℕ → List ℕ
@@ -48,3 +49,4 @@ status_text (BadTrace fault) = program_line (codes "trace: " ++ pcap_fault_text 
 status_text (ReadFault role) = program_line (codes "cannot read " ++ role_name role)
 status_text (WriteFault role) = program_line (codes "cannot write " ++ role_name role)
 status_text (TooLarge role) = program_line (role_name role ++ codes " is too large")
+status_text (BadCapture fault) = program_line (codes "trace: " ++ ng_fault_text fault)

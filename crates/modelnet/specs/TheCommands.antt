@@ -2,20 +2,22 @@
 use Rattle.std.specs.Prelude.{◌≤◌, ℕ, List, [], ◌∷◌}
 use Rattle.mn_base.specs.declared.limits.TheConstants.{TRACE_BYTES_MAX}
 use Rattle.mn_edge.specs.declared.role.Role.TheVariants.{Trace, Out, Report}
-use Rattle.pcap_io.specs.Faults.{PcapFirst}
+use Rattle.pcapng_in.specs.declared.fault.CaptureFault.TheVariants.{Pcap, Ng}
+use Rattle.pcapng_in.specs.CaptureFile.{CaptureFirst}
 use Rattle.modelnet.specs.declared.order.Order.{Order}
 use Rattle.modelnet.specs.declared.order.Order.TheVariants.{Chain}
 use Rattle.modelnet.specs.declared.read_limits.ReadLimits.{ReadLimits}
 use Rattle.modelnet.specs.declared.status.Status.{Status}
-use Rattle.modelnet.specs.declared.status.Status.TheVariants.{BadTrace}
+use Rattle.modelnet.specs.declared.status.Status.TheVariants.{BadTrace, BadCapture}
 use Rattle.modelnet.specs.Order.{ChainView, IsOrder}
 use Rattle.modelnet.specs.Roles.{input, output}
 use Rattle.modelnet.specs.Run.{SaysRun}
 use Rattle.modelnet.specs.Commands.{Command}
 
--- `chain` refuses the trace by its first fault
+-- `chain` refuses the trace by its first fault, which is one of its format
 abbrev pub chain_refuses : List (List ℕ) → Status → Type 0
-chain_refuses (trace ∷ []) (BadTrace fault) = PcapFirst trace fault
+chain_refuses (trace ∷ []) (BadTrace fault) = CaptureFirst trace (Pcap fault)
+chain_refuses (trace ∷ []) (BadCapture fault) = CaptureFirst trace (Ng fault)
 chain_refuses read refusal = ⊥
 
 -- `chain` writes the output trace and the report of the run of its trace

@@ -1,6 +1,7 @@
 //! Facts about the definitions that contracts cite. These functions compute nothing.
 
 ghost use Rattle.modelnet.specs.Answers.{EachCommandIsSound, WordsAndBytesHaveOneOutcome};
+ghost use Rattle.modelnet.specs.Copies.{PcapngIsReplayedAsItsCopy};
 ghost use Rattle.modelnet.specs.Forms.{WordsArePartedAsTheyStand};
 
 /// The words after `chain` are parted if and only if they are the words of three options, of two that may be left out, and of
@@ -17,4 +18,9 @@ pub fn each_command_is_sound()
 /// The same words and the same bytes of the inputs have the same bytes of the outputs, of each role that is written.
 pub fn words_and_bytes_have_one_outcome()
     ensures { WordsAndBytesHaveOneOutcome }
+{}
+
+/// `chain` allows the same outputs for a pcapng file and for the classic copy of its trace.
+pub fn pcapng_is_replayed_as_its_copy()
+    ensures { PcapngIsReplayedAsItsCopy }
 {}

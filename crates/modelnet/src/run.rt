@@ -1,9 +1,8 @@
 ghost use Rattle.std.specs.Prelude.{◌≡◌, ◌≤◌, length, map, All, IfOk, IfErr};
 ghost use Rattle.mn_base.specs.Refused.{IfFault};
 ghost use Rattle.pcap_io.specs.Capture.{IsTrace, IsRecordTime};
-ghost use Rattle.pcap_io.specs.Reading.{Pcap};
 ghost use Rattle.pcap_io.specs.Writing.{pcap_text};
-ghost use Rattle.pcap_io.specs.Faults.{PcapFirst};
+ghost use Rattle.pcapng_in.specs.CaptureFile.{SaysTrace, CaptureFirst};
 ghost use Rattle.journal.specs.Journal.{journal_of};
 ghost use Rattle.settle.specs.IsOutcome.{IsOutcome};
 ghost use Rattle.modelnet.specs.Order.{IsOrder};
@@ -15,7 +14,8 @@ use journal::laws::outputs_fit;
 use journal::{Setup, fates};
 use mn_base::limits::TRACE_BYTES_MAX;
 use mn_base::{Bytes, NoMemory, Refusal};
-use pcap_io::{Packet, PcapFault, Trace, read_pcap};
+use pcap_io::{Packet, Trace};
+use pcapng_in::{CaptureFault, read_capture};
 use report::{out_trace, print_report};
 use settle::{Outcome, gather};
 use std::alloc::Global;
@@ -29,16 +29,16 @@ pub struct Texts {
     pub report: Bytes,
 }
 
-/// What a chain makes of the text of a trace.
+/// What a chain makes of the bytes of a trace, in either capture format.
 pub fn chain_texts(
     alloc: Global,
     order: &ChainOrder,
     text: Bytes,
-) -> Result<Texts, Refusal<PcapFault>>
+) -> Result<Texts, Refusal<CaptureFault>>
     requires order { IsOrder order.now }
     requires few { length text ≤ TRACE_BYTES_MAX }
     ensures run { IfOk result (λ texts. SaysRun order.now text (pcap_text texts.out) texts.report) }
-    ensures fault { IfErr result (λ refusal. IfFault refusal (PcapFirst text)) }
+    ensures fault { IfErr result (λ refusal. IfFault refusal (CaptureFirst text)) }
 {
     let trace = read_trace(alloc, text)?;
     // A read of the trace, so that the proof knows what its type keeps.
@@ -49,14 +49,14 @@ pub fn chain_texts(
     Ok(texts)
 }
 
-/// The trace that a text says. The text is given back as soon as it is read.
-fn read_trace(alloc: Global, text: Bytes) -> Result<Trace, Refusal<PcapFault>>
+/// The trace that these bytes say. They are given back as soon as they are read.
+fn read_trace(alloc: Global, text: Bytes) -> Result<Trace, Refusal<CaptureFault>>
     requires { length text ≤ TRACE_BYTES_MAX }
-    ensures found { IfOk result (λ trace. Pcap text trace) }
-    ensures fault { IfErr result (λ refusal. IfFault refusal (PcapFirst text)) }
+    ensures found { IfOk result (λ trace. SaysTrace text trace) }
+    ensures fault { IfErr result (λ refusal. IfFault refusal (CaptureFirst text)) }
     ensures times { IfOk result (λ trace. All (λ packet. IsRecordTime packet.time_ns) trace.packets) }
 {
-    read_pcap(alloc, text.as_slice())
+    read_capture(alloc, text.as_slice())
 }
 
 /// Runs a chain on a trace: the fates of its packets, and the texts of what came of them.

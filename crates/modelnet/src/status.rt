@@ -5,6 +5,7 @@ use crate::words_fault::WordsFault;
 use mn_base::Refusal;
 use mn_edge::Role;
 use pcap_io::PcapFault;
+use pcapng_in::{CaptureFault, NgFault};
 
 /// How a command ended.
 #[derive(Clone, Copy, Debug, PartialEq, Eq)]
@@ -15,7 +16,7 @@ pub enum Status {
     NoMemory,
     /// The command line is invalid.
     BadWords(WordsFault),
-    /// The trace is no pcap file; this is its first fault.
+    /// The trace is no pcap file, nor does it begin as a pcapng file; this is its first fault.
     BadTrace(PcapFault),
     /// A call of the host on this input role failed.
     ReadFault(Role),
@@ -23,18 +24,21 @@ pub enum Status {
     WriteFault(Role),
     /// More bytes of this role came than its limit.
     TooLarge(Role),
+    /// The trace begins as a pcapng file, and this is its first fault.
+    BadCapture(NgFault),
 }
 
-impl From<Refusal<PcapFault>> for Status {
+impl From<Refusal<CaptureFault>> for Status {
     ghost use Rattle.std.specs.Prelude.{◌≡◌};
     ghost use Rattle.modelnet.specs.Statuses.{trace_refusal};
 
     ghost from_gives = { λ refusal status. status ≡ trace_refusal refusal };
 
-    fn from(refusal: Refusal<PcapFault>) -> Status {
+    fn from(refusal: Refusal<CaptureFault>) -> Status {
         match refusal {
             Refusal::NoMemory => Status::NoMemory,
-            Refusal::Fault(fault) => Status::BadTrace(fault),
+            Refusal::Fault(CaptureFault::Pcap(fault)) => Status::BadTrace(fault),
+            Refusal::Fault(CaptureFault::Ng(fault)) => Status::BadCapture(fault),
         }
     }
 }
@@ -52,6 +56,7 @@ impl Status {
             Status::ReadFault(_) => 6,
             Status::WriteFault(_) => 7,
             Status::TooLarge(_) => 8,
+            Status::BadCapture(_) => 11,
         }
     }
 }

@@ -29,6 +29,7 @@ fn line_of(alloc: Global, status: Status) -> Result<String, AllocError>
             format!(in alloc; "modelnet: {text}\n")
         }
         Status::BadTrace(fault) => format!(in alloc; "modelnet: trace: {fault}\n"),
+        Status::BadCapture(fault) => format!(in alloc; "modelnet: trace: {fault}\n"),
         Status::ReadFault(role) => {
             let role = role_name(role);
             format!(in alloc; "modelnet: cannot read {role}\n")

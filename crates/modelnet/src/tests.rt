@@ -10,11 +10,13 @@
 // | WriteFault(Out) | a_failed_write_leaves_a_front_of_the_output_trace |
 // | WriteFault(Report) | a_failed_write_of_the_report_leaves_the_output_trace_whole |
 // | TooLarge(Trace) | a_trace_above_its_limit_is_too_large |
+// | BadCapture | pcapng::a_cut_block_is_refused_and_nothing_is_written |
 ghost use Rattle.std.specs.Prelude.{◌≡◌, ◌≤◌, false};
 ghost use Rattle.mn_edge.specs.declared.role.Role.{Role};
 ghost use Rattle.mn_edge.specs.MemoryHostView.{stream_of};
 
 mod bursts;
+mod pcapng;
 
 use crate::plain::{plain, plain_within};
 use crate::read_limits::ReadLimits;
