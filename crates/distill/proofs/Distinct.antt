@@ -1,7 +1,7 @@
 -- Lists in which no element stands twice.
 use Rattle.std.proofs.Common.{◌≡◌, ◌≢◌, ℕ, zero, suc, ◌<◌, ◌≤◌, inl, inr, ⊎_elim, List, [], ◌∷◌, ◌++◌, length, take, get_or, map, refl, sym, ap, subst, arith, length-append}
 use Rattle.mn_base.specs.Among.{Among}
-use Rattle.mn_base.proofs.Members.{Among-append, Among-append-left, Among-append-right, Among-from-map, Among-place, split_at}
+use Rattle.mn_base.proofs.Members.{Among-append, Among-append-left, Among-append-right, Among-from-map, Among-index, split_at}
 use Rattle.distill.specs.PipeCount.{AreDistinct}
 
 pub AreDistinct-append : {X : Type 0} (xs ys : List X) → AreDistinct xs → AreDistinct ys → ((x : X) → Among x xs → Among x ys → ⊥)
@@ -50,5 +50,5 @@ pub not_before : {X : Type 0} (xs : List X) (i : ℕ) (d : X) → AreDistinct xs
 not_before [] i d distinct within there = absurd (omega arith)
 not_before (x ∷ xs) zero d distinct within there = there
 not_before {X} (x ∷ xs) (suc i) d distinct within there =
-    ⊎_elim (λ (same : x ≡ get_or xs i d). distinct.0 (subst (λ (z : X). Among z xs) (sym same) (Among-place xs i d (omega arith))))
+    ⊎_elim (λ (same : x ≡ get_or xs i d). distinct.0 (subst (λ (z : X). Among z xs) (sym same) (Among-index xs i d (omega arith))))
     (λ later. not_before xs i d distinct.1 (omega arith) later) there

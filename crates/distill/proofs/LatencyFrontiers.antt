@@ -6,7 +6,7 @@ use Rattle.std.proofs.lemmas.Bool.{cases_Bool, cases_lt, eq-eqb, eqb-true}
 use Rattle.std.proofs.lemmas.List.{take-append-le, get_or-take, length-take, take_all}
 use Rattle.std.proofs.lemmas.List.Folds.{list_any-append}
 use Rattle.mn_base.specs.Among.{Among}
-use Rattle.mn_base.proofs.Members.{Among-filter, Among-from-list_any, list_any-true, Among-place, PlaceOf, place_of}
+use Rattle.mn_base.proofs.Members.{Among-filter, Among-from-list_any, list_any-true, Among-index, IndexOf, index_of}
 use Rattle.topo.specs.declared.parts.Link.{Link}
 use Rattle.topo.specs.TopologyView.{TopologyView}
 use Rattle.topo.specs.Nodes.{edge_nodes_of}
@@ -72,17 +72,17 @@ first_frontier t (suc k) =
 in_more : (v i j : ℕ) (fs : List (List ℕ)) → i ≤ j → is_in_one v (take i fs) ≡ true → is_in_one v (take j fs) ≡ true
 in_more v i j fs low is =
     let found = Among-from-list_any (is_in v) (take i fs) is in
-    let at = place_of found.0 (take i fs) found.1 in
+    let at = index_of found.0 (take i fs) found.1 in
     let within = at.within in
     let size = length-take i fs in
     let size' = length-take j fs in
-    let reads : get_or (take j fs) at.place found.0 ≡ found.0 =
-    get_or-take j fs at.place found.0 (omega arith) ∙ sym (get_or-take i fs at.place found.0 (omega arith)) ∙ at.here found.0 in
+    let reads : get_or (take j fs) at.index found.0 ≡ found.0 =
+    get_or-take j fs at.index found.0 (omega arith) ∙ sym (get_or-take i fs at.index found.0 (omega arith)) ∙ at.here found.0 in
     list_any-true
     (is_in v)
     found.0
     (take j fs)
-    (subst (λ f. Among f (take j fs)) reads (Among-place (take j fs) at.place found.0 (omega arith)))
+    (subst (λ f. Among f (take j fs)) reads (Among-index (take j fs) at.index found.0 (omega arith)))
     found.2
 
 -- a node beside one of the frontiers stands in those up to the next
@@ -153,21 +153,21 @@ module _ (t : TopologyView) (v : ℕ) (low : v < length t.nodes) where
       → is_in_one v (take w (frontiers_of t k)) ≡ false → Among v (get_or (frontiers_of t k) w [])
   joined_to_first k w u l most there joins has away =
       let found = Among-from-list_any (is_in u) (take w (frontiers_of t k)) has in
-      let at : PlaceOf found.0 (take w (frontiers_of t k)) = place_of found.0 (take w (frontiers_of t k)) found.1 in
-      let i : ℕ = at.place in
+      let at : IndexOf found.0 (take w (frontiers_of t k)) = index_of found.0 (take w (frontiers_of t k)) found.1 in
+      let i : ℕ = at.index in
       let within = at.within in
       let size = length-take w (frontiers_of t k) in
       let len = length-frontiers_of t k in
-      let reads : get_or (frontiers_of t k) at.place [] ≡ found.0 =
-      sym (get_or-take w (frontiers_of t k) at.place [] (omega arith)) ∙ at.here [] in
-      let is : is_in_one v (take (at.place + 2) (frontiers_of t k)) ≡ true =
+      let reads : get_or (frontiers_of t k) at.index [] ≡ found.0 =
+      sym (get_or-take w (frontiers_of t k) at.index [] (omega arith)) ∙ at.here [] in
+      let is : is_in_one v (take (at.index + 2) (frontiers_of t k)) ≡ true =
       beside_one
       k
-      at.place
+      at.index
       (omega arith)
-      (beside t.links l (λ x. is_in x (get_or (frontiers_of t k) at.place [])) u v there joins (ap (is_in u) reads ∙ found.2)) in
+      (beside t.links l (λ x. is_in x (get_or (frontiers_of t k) at.index [])) u v there joins (ap (is_in u) reads ∙ found.2)) in
       let all : is_in_one v (take (w + 1) (frontiers_of t k)) ≡ true =
-      in_more v (at.place + 2) (w + 1) (frontiers_of t k) (omega arith) is in
+      in_more v (at.index + 2) (w + 1) (frontiers_of t k) (omega arith) is in
       is_in-Among
       v
       (get_or (frontiers_of t k) w [])

@@ -5,7 +5,7 @@ use Rattle.std.proofs.lemmas.Bool.{cases_eq, true≢false}
 use Rattle.std.proofs.lemmas.List.{get_or-take, length-take}
 use Rattle.mn_base.specs.declared.limits.TheConstants.{FRONTIERS_MAX}
 use Rattle.mn_base.specs.Among.{Among}
-use Rattle.mn_base.proofs.Members.{Among-filter, Among-place, All-Among, list_any-true}
+use Rattle.mn_base.proofs.Members.{Among-filter, Among-index, All-Among, list_any-true}
 use Rattle.topo.specs.declared.parts.Link.{Link}
 use Rattle.topo.specs.TopologyView.{TopologyView}
 use Rattle.topo.specs.Topologies.{IsTopology, IsLink}
@@ -104,7 +104,7 @@ module _ (t : TopologyView) (holds : IsTopology t) where
             (is_in a)
             (edge_nodes_of t.nodes)
             (take w (frontiers_of t k))
-            (subst (λ f. Among f (take w (frontiers_of t k))) first (Among-place (take w (frontiers_of t k)) 0 [] (omega arith)))
+            (subst (λ f. Among f (take w (frontiers_of t k))) first (Among-index (take w (frontiers_of t k)) 0 [] (omega arith)))
             (Among-is_in a (edge_nodes_of t.nodes) there) in
             absurd (true≢false (sym in_first ∙ away))
       ]

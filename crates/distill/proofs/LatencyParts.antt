@@ -5,7 +5,7 @@ use Rattle.std.proofs.lemmas.Bool.{true≢false}
 use Rattle.std.proofs.lemmas.List.{get_or-map, length-map, take-append-drop}
 use Rattle.std.proofs.lemmas.List.FromFn.{length-range_with_len, get_or-range_with_len}
 use Rattle.mn_base.specs.Among.{Among}
-use Rattle.mn_base.proofs.Members.{Among-append, Among-append-left, Among-append-right, Among-map, Among-from-map, Among-filter, Among-from-filter, Among-place, PlaceOf, place_of}
+use Rattle.mn_base.proofs.Members.{Among-append, Among-append-left, Among-append-right, Among-map, Among-from-map, Among-filter, Among-from-filter, Among-index, IndexOf, index_of}
 use Rattle.topo.specs.declared.parts.Link.{Link}
 use Rattle.routes.specs.declared.graph.Arc.{Arc}
 use Rattle.routes.specs.Walk.{no_arc, arc_at, IsWalk, weight_of}
@@ -139,7 +139,7 @@ module _ (tick_ns : ℕ) (links : List Link) (outer : ℕ → Bool) (border : Li
       → HasWalk middle a b ((arc_at (arcs_of links) e).weight + n)
   middle_first a b e n below from inner rest =
       record {
-        walk = at.place ∷ rest.walk;
+        walk = at.index ∷ rest.walk;
         joins = (
           (let within = at.within in
               let one : length middle ≡ length (links_at links middle_numbers) = length-map (links_at links middle_numbers) arc_of in
@@ -165,9 +165,9 @@ module _ (tick_ns : ℕ) (links : List Link) (outer : ℕ → Bool) (border : Li
           (subst (λ (x : Arc). outer x.from ≡ false) is inner.from)
           (subst (λ (x : Arc). outer x.to ≡ false) is inner.to)
 
-      at : PlaceOf e middle_numbers
+      at : IndexOf e middle_numbers
       at =
-          place_of
+          index_of
           e
           middle_numbers
           (Among-filter
@@ -177,8 +177,8 @@ module _ (tick_ns : ℕ) (links : List Link) (outer : ℕ → Bool) (border : Li
           (Among-range 0 (length links) e (omega arith) (let h = low in omega arith))
           passes)
 
-      same : arc_at middle at.place ≡ arc_at (arcs_of links) e
-      same = arc_at-middle links middle_numbers at.place e at.within (at.here 0) low
+      same : arc_at middle at.index ≡ arc_at (arcs_of links) e
+      same = arc_at-middle links middle_numbers at.index e at.within (at.here 0) low
 
   -- so a walk of links that aren't kept is one of the middle
   to_middle : (a b : ℕ) (es : List ℕ) → IsInnerWalk (arcs_of links) outer a b es → HasWalk middle a b (weight_of (arcs_of links) es)
@@ -271,11 +271,11 @@ module _ (tick_ns : ℕ) (links : List Link) (outer : ℕ → Bool) (border : Li
         where
           in_range : (e : ℕ) → Among e (range_with_len 0 (length links)) → e < length links
           in_range e there' =
-              let at = place_of e (range_with_len 0 (length links)) there' in
+              let at = index_of e (range_with_len 0 (length links)) there' in
               let len : length (range_with_len 0 (length links)) ≡ length links = length-range_with_len 0 (length links) in
               let within = at.within in
-              let reads : get_or (range_with_len 0 (length links)) at.place 0 ≡ 0 + at.place =
-              get_or-range_with_len 0 (length links) at.place 0 (omega arith) in
+              let reads : get_or (range_with_len 0 (length links)) at.index 0 ≡ 0 + at.index =
+              get_or-range_with_len 0 (length links) at.index 0 (omega arith) in
               let here = at.here 0 in
               omega arith
 
@@ -299,7 +299,7 @@ module _ (tick_ns : ℕ) (links : List Link) (outer : ℕ → Bool) (border : Li
             (sym is)
             (closed.leaves
             (link_at links e)
-            (Among-place links e no_link (link_low e low))
+            (Among-index links e no_link (link_low e low))
             (subst (λ (x : Arc). outer x.from ≡ false) is from)
             (subst (λ (x : Arc). outer x.to ≡ true) is to));
         enters = λ e low from to.
@@ -309,7 +309,7 @@ module _ (tick_ns : ℕ) (links : List Link) (outer : ℕ → Bool) (border : Li
             (sym is)
             (closed.enters
             (link_at links e)
-            (Among-place links e no_link (link_low e low))
+            (Among-index links e no_link (link_low e low))
             (subst (λ (x : Arc). outer x.from ≡ true) is from)
             (subst (λ (x : Arc). outer x.to ≡ false) is to));
       }

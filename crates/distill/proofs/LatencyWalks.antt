@@ -5,7 +5,7 @@ use Rattle.std.proofs.lemmas.Bool.{cases_eq}
 use Rattle.std.proofs.lemmas.List.{get_or-map, length-map}
 use Rattle.std.proofs.lemmas.List.Sums.{sum_by-cons}
 use Rattle.mn_base.specs.Among.{Among}
-use Rattle.mn_base.proofs.Members.{PlaceOf, place_of}
+use Rattle.mn_base.proofs.Members.{IndexOf, index_of}
 use Rattle.topo.specs.declared.parts.Link.{Link}
 use Rattle.routes.specs.declared.graph.Arc.{Arc}
 use Rattle.routes.specs.Walk.{no_arc, arc_at, IsWalk, weight_of}
@@ -103,15 +103,15 @@ pub pipe_arc : (pipes : List DistilledPipe) (pipe : DistilledPipe) (n : ℕ) →
     → (let params = pipe.params in params.latency_us) ≤ n → HasArc (arcs_of_pipes pipes) pipe.from pipe.to n
 pipe_arc pipes pipe n there low =
     record {
-      number = at.place;
+      number = at.index;
       below = (let h = at.within in let same = length-map pipes arc_of_pipe in omega arith);
       from = ap (λ (x : Arc). x.from) is;
       to = ap (λ (x : Arc). x.to) is;
       weight = (let same = ap (λ (x : Arc). x.weight) is in omega arith);
     }
   where
-    at : PlaceOf pipe pipes
-    at = place_of pipe pipes there
+    at : IndexOf pipe pipes
+    at = index_of pipe pipes there
 
-    is : arc_at (arcs_of_pipes pipes) (place_of pipe pipes there).place ≡ arc_of_pipe pipe
-    is = get_or-map arc_of_pipe pipes at.place pipe no_arc at.within ∙ ap arc_of_pipe (at.here pipe)
+    is : arc_at (arcs_of_pipes pipes) (index_of pipe pipes there).index ≡ arc_of_pipe pipe
+    is = get_or-map arc_of_pipe pipes at.index pipe no_arc at.within ∙ ap arc_of_pipe (at.here pipe)

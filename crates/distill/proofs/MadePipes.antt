@@ -4,7 +4,7 @@ use Rattle.std.specs.List.{AllZip}
 use Rattle.std.proofs.lemmas.List.{length-map}
 use Rattle.std.proofs.lemmas.List.Elements.{All-append, All-cons}
 use Rattle.std.proofs.Math.Seq.{take-append_seam, drop-append_seam}
-use Rattle.mn_base.proofs.Members.{All-Among, Among-place}
+use Rattle.mn_base.proofs.Members.{All-Among, Among-index}
 use Rattle.topo.specs.declared.parts.Link.{Link}
 use Rattle.topo.specs.Topologies.{IsLink}
 use Rattle.walk_out.specs.Parts.{PartsView, link_at}
@@ -81,7 +81,7 @@ made_among {tick_ns} {links} {parts} {kept} {mesh} n made hold border =
     meshed : All (IsPipeAmong n) mesh
     meshed i d within =
         let is_mesh = made.mesh_is in
-        let is_pair = is_mesh.pairs (get_or mesh i d) (Among-place mesh i d within) in
+        let is_pair = is_mesh.pairs (get_or mesh i d) (Among-index mesh i d within) in
         record {
           from = All-Among (λ v. v < n) _ parts.border border is_pair.from;
           to = All-Among (λ v. v < n) _ parts.border border is_pair.to;

@@ -2,7 +2,7 @@
 use Rattle.std.proofs.Common.{◌≡◌, ℕ, ◌+◌, ◌<◌, ◌≤◌, inl, inr, ⊎_elim, List, [], ◌∷◌, ◌++◌, length, take, get_or, map, refl, sym, ap, subst, ◌∙◌, arith, length-append}
 use Rattle.std.proofs.lemmas.List.{map-append, take_more, take_all, length-map}
 use Rattle.mn_base.specs.Among.{Among}
-use Rattle.mn_base.proofs.Members.{Among-append, Among-append-left, Among-append-right, Among-push, Among-map, Among-from-map, Among-place}
+use Rattle.mn_base.proofs.Members.{Among-append, Among-append-left, Among-append-right, Among-push, Among-map, Among-from-map, Among-index}
 use Rattle.topo.specs.declared.parts.Link.{Link}
 use Rattle.routes.specs.declared.graph.Arc.{Arc}
 use Rattle.distill.specs.declared.pipes.DistilledPipe.{DistilledPipe}
@@ -79,7 +79,7 @@ pub count_next : (arcs : List Arc) (border : List ℕ) (i d count more : ℕ) �
 count_next arcs border i d count more distinct within c s =
     let b = get_or border i d in
     let grown = one_target_more arcs border (take i border) b c.pairs s.found (not_before border i d distinct within)
-    (Among-place border i d within) c.are s.are in
+    (Among-index border i d within) c.are s.are in
     record {
       pairs = c.pairs ++ pairs_to b s.found;
       are = subst (λ (ts : List ℕ). ArePairsInto arcs border ts (c.pairs ++ pairs_to b s.found)) (sym (take_more border i d within)) grown;
@@ -124,7 +124,7 @@ pub pipes_next : {tick_ns : ℕ} {middle : List Link} {border : List ℕ} (i d :
 pipes_next {tick_ns} {middle} {border} i d {mesh} {mesh'} {row} distinct within p r pushed =
     let b = get_or border i d in
     let grown = one_target_more (arcs_of middle) border (take i border) b (map ends_of mesh) (starts_of row)
-    (not_before border i d distinct within) (Among-place border i d within) p.ends r.starts in
+    (not_before border i d distinct within) (Among-index border i d within) p.ends r.starts in
     let ends : map ends_of mesh' ≡ map ends_of mesh ++ pairs_to b (starts_of row) = ap (map ends_of) pushed ∙ map-append ends_of mesh row
     ∙ ap (λ l. map ends_of mesh ++ l) (row-ends b row r.ends) in
     record {

@@ -11,7 +11,7 @@ use Rattle.std.proofs.lemmas.List.{length-map, get_or-map, get_or-take, take-app
 use Rattle.std.proofs.lemmas.List.MinMax.{ranks_by}
 use Rattle.std.proofs.lemmas.List.Sorted.{sorted_far, IsPermutation-sym, All-permutation, length_permutation}
 use Rattle.mn_base.specs.Among.{Among}
-use Rattle.mn_base.proofs.Members.{All-Among, Among-place, Among-map, Among-from-map, Among-append, Among-append-left, Among-append-right}
+use Rattle.mn_base.proofs.Members.{All-Among, Among-index, Among-map, Among-from-map, Among-append, Among-append-left, Among-append-right}
 use Rattle.topo.specs.declared.parts.Link.{Link}
 use Rattle.distill.specs.declared.pipes.DistilledPipe.{DistilledPipe}
 use Rattle.distill.specs.Mesh.{arcs_of, IsMeshPair, ComesBefore, HasPipe, IsMesh}
@@ -23,7 +23,7 @@ use Rattle.distill.proofs.MeshPairs.{ArePipesInto, ends_of}
 Among-permutation : {X : Type 0} (x : X) (xs ys : List X) → IsPermutation xs ys → Among x xs → Among x ys
 Among-permutation x xs ys moved there =
     All-Among (λ z. Among z ys) x xs
-    (All-permutation (λ z. Among z ys) ys xs (IsPermutation-sym xs ys moved) (λ i d within. Among-place ys i d within)) there
+    (All-permutation (λ z. Among z ys) ys xs (IsPermutation-sym xs ys moved) (λ i d within. Among-index ys i d within)) there
 
 -- by what pipes are sorted
 abbrev pub from_and_to : DistilledPipe → ℕ × ℕ
@@ -65,7 +65,7 @@ differ_by_length {X} xs ys i j d distinct len all lt within same =
     ∙ ap (λ l. take j ys ++ l) (drop_more ys j d within) in
     let front_len : length (take j ys) ≡ j = length-take-le j ys (omega arith) in
     let in_front : Among (get_or ys j d) (take j ys) = subst
-    (λ (z : X). Among z (take j ys)) (get_or-take j ys i d lt ∙ same) (Among-place (take j ys) i d (omega arith)) in
+    (λ (z : X). Among z (take j ys)) (get_or-take j ys i d lt ∙ same) (Among-index (take j ys) i d (omega arith)) in
     let still : (x : X) → Among x xs → Among x (take j ys ++ drop (j + 1) ys) = λ x there.
     ⊎_elim
     (λ front. Among-append-left x (take j ys) (drop (j + 1) ys) front)

@@ -21,7 +21,7 @@ use Rattle.journal.specs.SetupView.{SetupView, no_params, packet_of, len_of, fir
 use Rattle.journal.specs.IsSetup.{IsSetup, IsChangeBefore}
 use Rattle.journal.specs.Steps.{word_place, is_lost, step_of}
 use Rattle.journal.specs.IsPipe.{SetupPipeView, IsOfSetup, IsPipe}
-use Rattle.mn_base.proofs.Members.{Among-place, Among-from-filter}
+use Rattle.mn_base.proofs.Members.{Among-index, Among-from-filter}
 
 -- the parameters that it gives for each tick are those of the setup
 pub same_params : {S : SetupView} {m : SetupPipeView} → IsOfSetup S m → params_at m.memory ≡ params_of S m.number
@@ -97,7 +97,7 @@ changes-rise S is pipe i j d less within =
     let first : get_or (map timed own) i d ≡ timed (get_or own i none) = get_or-map timed own i none d (omega arith) in
     let second : get_or (map timed own) j d ≡ timed (get_or own j none) = get_or-map timed own j none d inside in
     let of_pipe : (k : ℕ) → k < length own → (get_or own k none).pipe ≡ pipe =
-    λ k here. eqb-true _ _ (Among-from-filter (λ c. c.pipe == pipe) (get_or own k none) S.changes (Among-place own k none here)).1 in
+    λ k here. eqb-true _ _ (Among-from-filter (λ c. c.pipe == pipe) (get_or own k none) S.changes (Among-index own k none here)).1 in
     let order : IsChangeBefore (get_or own i none) (get_or own j none) =
     AllPairs-filter IsChangeBefore (λ c. c.pipe == pipe) S.changes is.changes_rise i j none less inside in
     let later : (get_or own i none).tick < (get_or own j none).tick =

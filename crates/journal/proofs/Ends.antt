@@ -17,7 +17,7 @@ use Rattle.journal.specs.IsJournal.{scheme_of, dues}
 use Rattle.journal.specs.Journal.{journal_of}
 use Rattle.journal.specs.Fates.{fate_of_visit, last_visit}
 use Rattle.journal.specs.Laws.{EndsWay, WaysEnd, FatesHold, VisitsRise, HopsDiffer, HopsAreLater, HopsWait}
-use Rattle.mn_base.proofs.Members.{Among-place, find-none, find-behind, reverse-split, Among-reverse, Among-from-map, SplitAt, split_at, Among-append-right}
+use Rattle.mn_base.proofs.Members.{Among-index, find-none, find-behind, reverse-split, Among-reverse, Among-from-map, SplitAt, split_at, Among-append-right}
 use Rattle.pipe.proofs.Origins.{rises-across, rises-pairs, due_from-first, due_from-visit}
 use Rattle.pipe.proofs.Growing.{one_visit, earlier, apart, follows}
 use Rattle.journal.proofs.Delays.{next_parts}

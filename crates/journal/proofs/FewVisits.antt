@@ -14,7 +14,7 @@ use Rattle.journal.specs.IsSetup.{IsSetup}
 use Rattle.journal.specs.Hops.{due_of, pipe_of}
 use Rattle.journal.specs.Steps.{past_visit, visits_to}
 use Rattle.journal.specs.IsJournal.{scheme_of}
-use Rattle.mn_base.proofs.Members.{Among-from-filter, All-Among, place_of}
+use Rattle.mn_base.proofs.Members.{Among-from-filter, All-Among, index_of}
 use Rattle.pipe.proofs.CanonicalOrder.{before-irreflexive}
 use Rattle.pipe.proofs.Growing.{one_visit}
 use Rattle.journal.proofs.Orderly.{IsGrowing, orderly, visit-pipe}
@@ -35,10 +35,10 @@ rising-few n limit (p ∷ ps) rise all low =
   where
     later : (q : PacketPlan) → Among q ps → (p.number + 1 ≤ q.number) × (q.number < limit)
     later q a =
-        let s = place_of q ps a in
-        let within : s.place < length ps = s.within in
-        let less : p.number < (slice_index_or ps s.place q).number = rise zero (suc s.place) q (omega arith) (omega arith) in
-        let at : (slice_index_or ps s.place q).number ≡ q.number = ap (λ (r : PacketPlan). r.number) (s.here q) in
+        let s = index_of q ps a in
+        let within : s.index < length ps = s.within in
+        let less : p.number < (slice_index_or ps s.index q).number = rise zero (suc s.index) q (omega arith) (omega arith) in
+        let at : (slice_index_or ps s.index q).number ≡ q.number = ap (λ (r : PacketPlan). r.number) (s.here q) in
         (omega (arith, less, at), (all q (inr a)).1)
 
 pub few_packets : (S : SetupView) → IsSetup S → length S.packets ≤ PACKETS_MAX

@@ -15,7 +15,7 @@ use Rattle.journal.specs.Hops.{entry}
 use Rattle.journal.specs.IsJournal.{scheme_of}
 use Rattle.journal.specs.Journal.{pending}
 use Rattle.journal.specs.Held.{plain, IsIndexed, IsFirstBelow, HaveEntered, IsHeld}
-use Rattle.mn_base.proofs.Members.{place_of, Among-map, Among-from-map, Among-push, Among-last, Among-place, Among-append-left}
+use Rattle.mn_base.proofs.Members.{index_of, Among-map, Among-from-map, Among-push, Among-last, Among-index, Among-append-left}
 use Rattle.pipe.proofs.Origins.{due_from-first}
 use Rattle.pipe.proofs.Grown.{pending_from, pending_parts}
 use Rattle.journal.proofs.Packets.{among-get}
@@ -114,7 +114,7 @@ pub entered-rising : (S : SetupView) → IsSetup S → (n : ℕ) (held : List Du
     → AllPairs (λ u v. u.due.packet < v.due.packet) (held ++ w ∷ [])
 entered-rising S is n held p w h here first rising =
     all_pairs_push (λ (u : DueVisit) v. u.due.packet < v.due.packet) held w rising
-    (λ k d within. entered-below S is n held p w h here first (slice_index_or held k d) (Among-place held k d within))
+    (λ k d within. entered-below S is n held p w h here first (slice_index_or held k d) (Among-index held k d within))
 
 -- the visit that is put behind the others
 pub pushed-among : (held : List DueVisit) (w other : DueVisit) → Among other (held ++ w ∷ []) ↔ ((w ≡ other) ⊎ Among other held)
@@ -153,8 +153,8 @@ held_from-entered S n held h whole = record {
 
     out : (x : Due) → Origin S [] x → Among x (map plain held)
     out x (inl m) =
-        let s = place_of m.0 S.packets m.1.among in
-        let w : s.place < length S.packets = s.within in
-        let at : slice_get S.packets s.place ≡ Some m.0 = slice_get-get_or S.packets s.place m.0 w ∙ ap Some (s.here m.0) in
-        h.all s.place m.0 x (omega arith) at (entry-is S m.0 x m.1)
+        let s = index_of m.0 S.packets m.1.among in
+        let w : s.index < length S.packets = s.within in
+        let at : slice_get S.packets s.index ≡ Some m.0 = slice_get-get_or S.packets s.index m.0 w ∙ ap Some (s.here m.0) in
+        h.all s.index m.0 x (omega arith) at (entry-is S m.0 x m.1)
     out x (inr m) = absurd m.1

@@ -17,7 +17,7 @@ use Rattle.std.proofs.lemmas.List.MinMax.{ranks_by}
 use Rattle.std.proofs.lemmas.List.Sorted.{length_permutation, sorted_far, sum_by_pushed, sum_by_popped, sum_by-IsPermutation, Contains-permutation, IsPermutation-sym, IsPermutation-map}
 use Rattle.std.proofs.lemmas.List.Sums.{sum_by-cons, sum_by-append}
 use Rattle.mn_base.specs.Among.{Among}
-use Rattle.mn_base.proofs.Members.{All-Among, Among-place, Among-append, Among-append-left, Among-append-right}
+use Rattle.mn_base.proofs.Members.{All-Among, among-from_contains, contains-from_among, Among-index, Among-append, Among-append-left, Among-append-right}
 use Rattle.mn_base.specs.declared.due.Due.{Due}
 use Rattle.mn_base.specs.Canonical.{Before, is_before}
 use Rattle.pipe.proofs.CanonicalOrder.{before-transitive, before-either, not_before-transitive, is_before-true, is_before-false}
@@ -25,18 +25,7 @@ use Rattle.journal.specs.declared.due_visits.DueVisit.{DueVisit}
 use Rattle.journal.specs.Entries.{HeapEntry, due_from_entry, pair_cmp, top_cmp, later_visits, of_packet, comes_first, early_of}
 use Rattle.journal.specs.Held.{HasNone, TakesVisit}
 
--- membership by recursion and by index
-pub contains-from_among : {X : Type 0} (z : X) (xs : List X) → Among z xs → Contains xs z
-contains-from_among z [] among = absurd among
-contains-from_among z (x ∷ xs) (inl same) = (0, omega arith, same)
-contains-from_among z (x ∷ xs) (inr among) =
-    let rest = contains-from_among z xs among in
-    let within : rest.0 < length xs = rest.1 in
-    (suc rest.0, omega arith, rest.2)
-
-pub among-from_contains : {X : Type 0} (z : X) (xs : List X) → Contains xs z → Among z xs
-among-from_contains z xs contains = subst (λ w. Among w xs) contains.2 (Among-place xs contains.0 z contains.1)
-
+-- a permutation keeps the members
 pub among-permuted : {X : Type 0} (z : X) (xs ys : List X) → IsPermutation xs ys → Among z xs → Among z ys
 among-permuted z xs ys moved among = among-from_contains z ys (Contains-permutation xs ys z moved (contains-from_among z xs among))
 
@@ -98,7 +87,7 @@ apart-places [] i j d once less within same = absurd (omega arith)
 apart-places (w ∷ ws) i zero d once less within same = absurd (omega arith)
 apart-places (w ∷ ws) zero (suc j) d once less within same =
     let there : DueVisit = get_or ws j d in
-    let behind = many-some there ws (Among-place ws j d (omega arith)) in
+    let behind = many-some there ws (Among-index ws j d (omega arith)) in
     let here : of_packet there.due.packet w ≡ 1 = rw (eq-eqb w.due.packet there.due.packet same) refl in
     omega (arith, behind, here, once there.due.packet, sum_by-cons (of_packet there.due.packet) w ws)
 apart-places (w ∷ ws) (suc i) (suc j) d once less within same =

@@ -21,7 +21,7 @@ use Rattle.journal.specs.IsJournal.{scheme_of}
 use Rattle.journal.specs.Journal.{hop_count, journal_of}
 use Rattle.journal.specs.IsPipe.{SetupPipeView, IsPipe, ArePipes}
 use Rattle.journal.specs.Held.{plain, HasNone, TakesVisit, IsIndexed, PutsNext, IsHeld, IsMaking, IsToMake}
-use Rattle.mn_base.proofs.Members.{Among-map, Among-from-map, Among-place}
+use Rattle.mn_base.proofs.Members.{Among-map, Among-from-map, Among-index}
 use Rattle.pipe.proofs.Growing.{growing-nil, growing-push}
 use Rattle.pipe.proofs.Pending.{held-whole, taken-due, taken-least, taken-order, taken-alone, held-push}
 use Rattle.journal.proofs.Orderly.{IsGrowing, orderly}
@@ -103,7 +103,7 @@ hops-few S is =
     short : (k : ℕ) (d : PacketPlan) → k < length S.packets → length (route_of S (slice_index_or S.packets k d).number) ≤ ROUTE_PIPES_MAX
     short k d within =
         let p : PacketPlan = slice_index_or S.packets k d in
-        let r = packet-route S is p (packet-known S is p (Among-place S.packets k d within)) in
+        let r = packet-route S is p (packet-known S is p (Among-index S.packets k d within)) in
         subst (λ (route : List ℕ). length route ≤ ROUTE_PIPES_MAX) r.is r.short
 
 module _ {S : SetupView} (is : IsSetup S) {J : List Visit} {next : DueVisit} {pipes : List SetupPipeView} {rest : List DueVisit} {made : ℕ}

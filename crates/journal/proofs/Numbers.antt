@@ -7,7 +7,7 @@ use Rattle.mn_base.specs.Among.{Among}
 use Rattle.journal.specs.declared.setup.PacketPlan.{PacketPlan}
 use Rattle.journal.specs.SetupView.{SetupView, packet_of}
 use Rattle.journal.specs.IsSetup.{IsSetup}
-use Rattle.mn_base.proofs.Members.{Among-find, find-some, find-none, Among-place, PlaceOf, place_of}
+use Rattle.mn_base.proofs.Members.{Among-find, find-some, find-none, Among-index, IndexOf, index_of}
 use Rattle.journal.proofs.Orderly.{one_packet}
 
 pub numbers-order : (S : SetupView) → IsSetup S → IsNonDecreasingBy (λ p. p.number) S.packets
@@ -35,31 +35,31 @@ pub absent : (S : SetupView) → IsSetup S → (n i : ℕ)
 absent S is n i parts other = sym (find-none (λ (p : PacketPlan). p.number == n) S.packets none)
   where
     none : (p : PacketPlan) → Among p S.packets → (p.number == n) ≡ false
-    none p a = false_from_ne_true (p.number == n) (λ e. clash (eqb-true _ _ e) (cases_order s.place i))
+    none p a = false_from_ne_true (p.number == n) (λ e. clash (eqb-true _ _ e) (cases_order s.index i))
       where
-        s : PlaceOf p S.packets
-        s = place_of p S.packets a
+        s : IndexOf p S.packets
+        s = index_of p S.packets a
 
-        clash : p.number ≡ n → (s.place ≡ i) ⊎ ((s.place < i) ⊎ (i < s.place)) → ⊥
+        clash : p.number ≡ n → (s.index ≡ i) ⊎ ((s.index < i) ⊎ (i < s.index)) → ⊥
         clash e (inl same) =
             other p (subst (λ (k : ℕ). k < length S.packets) same s.within)
             (ap (λ k. (get_or S.packets k p).number) (sym same) ∙ ap (λ (q : PacketPlan). q.number) (s.here p) ∙ e)
         clash e (inr (inl below)) =
-            let less : (get_or S.packets s.place p).number < n = ltb-true _ _ (parts.0 s.place p (omega arith) below) in
-            let here : (get_or S.packets s.place p).number ≡ n = ap (λ (q : PacketPlan). q.number) (s.here p) ∙ e in
+            let less : (get_or S.packets s.index p).number < n = ltb-true _ _ (parts.0 s.index p (omega arith) below) in
+            let here : (get_or S.packets s.index p).number ≡ n = ap (λ (q : PacketPlan). q.number) (s.here p) ∙ e in
             omega (arith, less, here)
         clash e (inr (inr above)) =
-            let within : s.place < length S.packets = s.within in
+            let within : s.index < length S.packets = s.within in
             let most : n ≤ (get_or S.packets i p).number = ltb-false _ _ (parts.1 i p (omega arith) (omega arith)) in
-            let less : (get_or S.packets i p).number < (get_or S.packets s.place p).number = is.numbers_rise i s.place p above within in
-            let here : (get_or S.packets s.place p).number ≡ n = ap (λ (q : PacketPlan). q.number) (s.here p) ∙ e in
+            let less : (get_or S.packets i p).number < (get_or S.packets s.index p).number = is.numbers_rise i s.index p above within in
+            let here : (get_or S.packets s.index p).number ≡ n = ap (λ (q : PacketPlan). q.number) (s.here p) ∙ e in
             omega (arith, most, less, here)
 
 -- the same for a list that is the setup's packets, at a place of it
 pub found_at : (S : SetupView) → IsSetup S → (xs : List PacketPlan) (i n : ℕ) (d : PacketPlan) → xs ≡ S.packets → i < length xs
     → (get_or xs i d).number ≡ n → Some (get_or xs i d) ≡ packet_of S n
 found_at S is xs i n d same within e =
-    found S is (get_or xs i d) n (subst (Among (get_or xs i d)) same (Among-place xs i d within)) e
+    found S is (get_or xs i d) n (subst (Among (get_or xs i d)) same (Among-index xs i d within)) e
 
 pub absent_at : (S : SetupView) → IsSetup S → (xs : List PacketPlan) (i n : ℕ) (d : PacketPlan) → xs ≡ S.packets
     → IsPartitionPoint (λ (p : PacketPlan). ltb p.number n ≡ true) (λ (p : PacketPlan). ltb p.number n ≡ false) xs i

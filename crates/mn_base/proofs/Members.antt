@@ -1,5 +1,6 @@
--- Membership by recursion: what stands in a list that is joined, mapped, filtered or reversed, where a member splits its list, and at which place it stands.
-use Rattle.std.proofs.Common.{◌≡◌, ◌⊎◌, inl, inr, ⊎_elim, ℕ, zero, suc, ◌<◌, Bool, true, false, cond, List, [], ◌∷◌, ◌++◌, length, map, filter, reverse, filter_map, find, Option, Some, None, slice_index_or, All, AllPairs, refl, sym, ap, ◌∙◌, subst, arith, true≢false, append_assoc}
+-- Membership by recursion: what stands in a list that is joined, mapped, filtered or reversed, where a member splits its
+-- list, and at which index it stands.
+use Rattle.std.proofs.Common.{◌≡◌, ◌⊎◌, inl, inr, ⊎_elim, ℕ, zero, suc, ◌<◌, Bool, true, false, cond, List, [], ◌∷◌, ◌++◌, length, map, filter, reverse, filter_map, find, Option, Some, None, slice_index_or, All, AllPairs, Contains, refl, sym, ap, ◌∙◌, subst, arith, true≢false, append_assoc}
 use Rattle.std.proofs.lemmas.Bool.{cases_order}
 use Rattle.std.proofs.lemmas.List.{reverse-append}
 use Rattle.std.specs.Prelude.{◌||◌}
@@ -182,44 +183,56 @@ split_push (w ∷ xs) x (y ∷ front) rest v e =
     let heads : w ≡ y = cc in
     ⊎_elim (λ new. inl (cc, new.1)) (λ old. inr (old.0, cc)) (split_push xs x front rest v tails)
 
-pub Among-place : {X : Type 0} (xs : List X) (i : ℕ) (d : X) → i < length xs → Among (slice_index_or xs i d) xs
-Among-place [] i d within = absurd (omega arith)
-Among-place (x ∷ xs) zero d within = inl refl
-Among-place (x ∷ xs) (suc i) d within = inr (Among-place xs i d (omega arith))
+pub Among-index : {X : Type 0} (xs : List X) (i : ℕ) (d : X) → i < length xs → Among (slice_index_or xs i d) xs
+Among-index [] i d within = absurd (omega arith)
+Among-index (x ∷ xs) zero d within = inl refl
+Among-index (x ∷ xs) (suc i) d within = inr (Among-index xs i d (omega arith))
 
--- the place of a member
-pub record PlaceOf {X : Type 0} (x : X) (xs : List X) : Type 0 where
-  pub place : ℕ
-  pub within : place < length xs
-  pub here : (d : X) → slice_index_or xs place d ≡ x
+-- where a member stands
+pub record IndexOf {X : Type 0} (x : X) (xs : List X) : Type 0 where
+  pub index : ℕ
+  pub within : index < length xs
+  pub here : (d : X) → slice_index_or xs index d ≡ x
 
-pub place_of : {X : Type 0} (x : X) (xs : List X) → Among x xs → PlaceOf x xs
-place_of x [] h = absurd h
-place_of x (y ∷ xs) (inl e) = record { place = 0; within = omega arith; here = λ d. e }
-place_of x (y ∷ xs) (inr h) =
-    let s = place_of x xs h in
-    let w : s.place < length xs = s.within in
-    record { place = suc s.place; within = omega arith; here = s.here }
+pub index_of : {X : Type 0} (x : X) (xs : List X) → Among x xs → IndexOf x xs
+index_of x [] h = absurd h
+index_of x (y ∷ xs) (inl e) = record { index = 0; within = omega arith; here = λ d. e }
+index_of x (y ∷ xs) (inr h) =
+    let s = index_of x xs h in
+    let w : s.index < length xs = s.within in
+    record { index = suc s.index; within = omega arith; here = s.here }
 
 pub All-Among : {X : Type 0} (P : X → Type 0) (x : X) (xs : List X) → All P xs → Among x xs → P x
-All-Among P x xs all h = let s = place_of x xs h in subst P (s.here x) (all s.place x s.within)
+All-Among P x xs all h = let s = index_of x xs h in subst P (s.here x) (all s.index x s.within)
 
 -- of two members one is the other, or they stand in one order or the other
 pub AllPairs-Among : {X : Type 0} (R : X → X → Type 0) (x y : X) (xs : List X) → AllPairs R xs → Among x xs → Among y xs
     → (x ≡ y) ⊎ (R x y ⊎ R y x)
-AllPairs-Among {X} R x y xs all h k = go (cases_order s.place t.place)
+AllPairs-Among {X} R x y xs all h k = go (cases_order s.index t.index)
   where
-    s : PlaceOf x xs
-    s = place_of x xs h
+    s : IndexOf x xs
+    s = index_of x xs h
 
-    t : PlaceOf y xs
-    t = place_of y xs k
+    t : IndexOf y xs
+    t = index_of y xs k
 
-    go : (s.place ≡ t.place) ⊎ ((s.place < t.place) ⊎ (t.place < s.place)) → (x ≡ y) ⊎ (R x y ⊎ R y x)
+    go : (s.index ≡ t.index) ⊎ ((s.index < t.index) ⊎ (t.index < s.index)) → (x ≡ y) ⊎ (R x y ⊎ R y x)
     go (inl same) = inl (sym (s.here x) ∙ ap (λ i. slice_index_or xs i x) same ∙ t.here x)
     go (inr (inl before)) =
-        let at_y = subst (λ (z : X). R (slice_index_or xs s.place x) z) (t.here x) (all s.place t.place x before t.within) in
+        let at_y = subst (λ (z : X). R (slice_index_or xs s.index x) z) (t.here x) (all s.index t.index x before t.within) in
         inr (inl (subst (λ (z : X). R z y) (s.here x) at_y))
     go (inr (inr after)) =
-        let at_x = subst (λ (z : X). R (slice_index_or xs t.place x) z) (s.here x) (all t.place s.place x after s.within) in
+        let at_x = subst (λ (z : X). R (slice_index_or xs t.index x) z) (s.here x) (all t.index s.index x after s.within) in
         inr (inr (subst (λ (z : X). R z x) (t.here x) at_x))
+
+-- membership by recursion and by index
+pub contains-from_among : {X : Type 0} (z : X) (xs : List X) → Among z xs → Contains xs z
+contains-from_among z [] among = absurd among
+contains-from_among z (x ∷ xs) (inl same) = (0, omega arith, same)
+contains-from_among z (x ∷ xs) (inr among) =
+    let rest = contains-from_among z xs among in
+    let within : rest.0 < length xs = rest.1 in
+    (suc rest.0, omega arith, rest.2)
+
+pub among-from_contains : {X : Type 0} (z : X) (xs : List X) → Contains xs z → Among z xs
+among-from_contains z xs contains = subst (λ w. Among w xs) contains.2 (Among-index xs contains.0 z contains.1)

@@ -2,6 +2,7 @@ pub mod Among
 pub mod Canonical
 pub mod Causes
 pub mod Decimal
+pub mod Draws
 pub mod Laws
 pub mod Params
 pub mod Ranges

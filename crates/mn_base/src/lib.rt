@@ -7,6 +7,7 @@
 mod bytes;
 mod causes;
 mod decimal;
+mod draws;
 mod due;
 pub mod laws;
 pub mod limits;
@@ -18,6 +19,7 @@ mod units;
 pub use bytes::Bytes;
 pub use causes::{Cause, Unbound};
 pub use decimal::read_u64;
+pub use draws::Draws;
 pub use due::Due;
 pub use params::PipeParams;
 pub use ranges::{is_bandwidth, is_latency, is_link_type, is_loss, is_queue_limit};

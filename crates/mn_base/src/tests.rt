@@ -1,5 +1,5 @@
 use crate::{
-    Bytes, PipeParams, Refusal, entry_tick, is_bandwidth, is_latency, is_link_type, is_loss,
+    Bytes, Draws, PipeParams, Refusal, entry_tick, is_bandwidth, is_latency, is_link_type, is_loss,
     is_queue_limit, keep_both, keep_of_ppm, read_u64, ticks_of_us, tx_ns,
 };
 use std::test::Fail;
@@ -65,4 +65,12 @@ fn a_fault_is_mapped_and_out_of_memory_stays(rt: HostRuntime) {
         Refusal::Fault(3u8).map_fault(u64::from),
         Refusal::Fault(3u64)
     );
+}
+
+#[test]
+fn draws_from_a_number(rt: HostRuntime) {
+    let mut draws = Draws::new(0);
+    assert_eq!(rt; draws.draw(3), 2);
+    let mut draws = Draws::new(0);
+    assert_eq!(rt; draws.draw(16), 15);
 }

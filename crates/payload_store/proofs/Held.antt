@@ -12,7 +12,7 @@ use Rattle.std.proofs.lemmas.Cmp.{ranked}
 use Rattle.std.proofs.lemmas.Bool.{false≢true, ne_eqb, eq-eqb, cases_eq}
 use Rattle.std.proofs.lemmas.List.Quantifiers.{all_pairs_push}
 use Rattle.mn_base.specs.Among.{Among}
-use Rattle.mn_base.proofs.Members.{Among-push, Among-place}
+use Rattle.mn_base.proofs.Members.{Among-push, Among-index}
 use Rattle.payload_store.specs.StoreView.{ReleasesOnce, IsStore}
 
 abbrev pub Entries : Type 0
@@ -112,7 +112,7 @@ pub once-release : (held : Held) (released : List ℕ) (packet : ℕ) → Releas
     → IsSome (map.get held packet) → ReleasesOnce (record { held = map.remove held packet; released = released ++ packet ∷ [] })
 once-release held released packet once is_held = record {
   differ = all_pairs_push (λ a b. a ≢ b) released packet once.differ (λ k d within same.
-      fresh (subst (λ (p : ℕ). Among p released) same (Among-place released k d within)));
+      fresh (subst (λ (p : ℕ). Among p released) same (Among-index released k d within)));
   not_held = λ other there.
       map.get-remove nat_cmp_total held packet other ∙ go other (Among-push other released packet there);
 }

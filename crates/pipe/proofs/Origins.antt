@@ -4,7 +4,7 @@ use Rattle.mn_base.specs.Among.{Among}
 use Rattle.mn_base.specs.declared.due.Due.{Due}
 use Rattle.mn_base.specs.Canonical.{Before}
 use Rattle.pipe.specs.Scheme.{Scheme, dues_by, Rises, AreMade, IsOrderly}
-use Rattle.mn_base.proofs.Members.{Among-append-left, Among-append-right, Among-append, Among-filter_map, Among-from-filter_map, Among-place, split_at}
+use Rattle.mn_base.proofs.Members.{Among-append-left, Among-append-right, Among-append, Among-filter_map, Among-from-filter_map, Among-index, split_at}
 use Rattle.pipe.proofs.CanonicalOrder.{before-irreflexive, before-asymmetric}
 
 module _ {V : Type 0} (s : Scheme V) where
@@ -59,7 +59,7 @@ module _ {V : Type 0} (s : Scheme V) where
   pub rises-pairs : (J : List V) → Rises s J → AllPairs (λ v w. Before (s.due_of v) (s.due_of w)) J
   rises-pairs [] r i j d l m = absurd (omega arith)
   rises-pairs (v ∷ J) r i zero d l m = absurd (omega arith)
-  rises-pairs (v ∷ J) r zero (suc j) d l m = r.0 (slice_index_or J j d) (Among-place J j d (omega arith))
+  rises-pairs (v ∷ J) r zero (suc j) d l m = r.0 (slice_index_or J j d) (Among-index J j d (omega arith))
   rises-pairs (v ∷ J) r (suc i) (suc j) d l m = rises-pairs J r.1 i j d (omega arith) (omega arith)
 
   -- a due visit is due at first, or follows a visit of J

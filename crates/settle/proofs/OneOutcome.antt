@@ -3,7 +3,7 @@ use Rattle.std.proofs.Common.{◌≡◌, suc, ◌<◌, List, [], ◌∷◌, leng
 use Rattle.std.specs.List.Sorted.{IsPermutation}
 use Rattle.std.proofs.lemmas.List.Sorted.{IsPermutation-sym, IsPermutation-trans, Contains-permutation}
 use Rattle.mn_base.specs.Among.{Among}
-use Rattle.mn_base.proofs.Members.{Among-place}
+use Rattle.mn_base.proofs.Members.{among-from_contains, contains-from_among}
 use Rattle.settle.specs.declared.outcome.Leaving.{Leaving}
 use Rattle.settle.specs.IsOutcome.{leavings, LeavesBefore}
 use Rattle.settle.specs.Laws.{OutcomesAgree}
@@ -18,25 +18,12 @@ never_both a b (inr tie) (inr back) =
     let again : b.packet < a.packet = back.1 in
     omega arith
 
--- membership by recursion and by place
-contains-from_among : {X : Type 0} (z : X) (xs : List X) → Among z xs → Contains xs z
-contains-from_among z [] among = absurd among
-contains-from_among z (x ∷ xs) (inl same) = (0, omega arith, same)
-contains-from_among z (x ∷ xs) (inr among) =
-    let rest = contains-from_among z xs among in
-    let within : rest.0 < length xs = rest.1 in
-    (suc rest.0, omega arith, rest.2)
-
-among-from_contains : {X : Type 0} (z : X) (xs : List X) → Contains xs z → Among z xs
-among-from_contains z xs contains =
-    subst (λ w. Among w xs) contains.2 (Among-place xs contains.0 z contains.1)
-
 -- the first is before each of the others
 before-rest : (x : Leaving) (xs : List Leaving) → AllPairs LeavesBefore (x ∷ xs) → (z : Leaving) → Among z xs → LeavesBefore x z
 before-rest x xs ordered z among =
-    let place = contains-from_among z xs among in
-    let within : place.0 < length xs = place.1 in
-    subst (LeavesBefore x) place.2 (ordered 0 (suc place.0) z (omega arith) (omega arith))
+    let at = contains-from_among z xs among in
+    let within : at.0 < length xs = at.1 in
+    subst (LeavesBefore x) at.2 (ordered 0 (suc at.0) z (omega arith) (omega arith))
 
 rest-ordered : (x : Leaving) (xs : List Leaving) → AllPairs LeavesBefore (x ∷ xs) → AllPairs LeavesBefore xs
 rest-ordered x xs ordered i j d lt within = ordered (suc i) (suc j) d (omega arith) (omega arith)

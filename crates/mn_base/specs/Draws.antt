@@ -1,0 +1,10 @@
+-- Draws from a number: Knuth's linear congruential generator of 64 bits (MMIX), of which the upper 31 bits are taken.
+use Rattle.std.specs.Prelude.{ℕ, ◌+◌, ◌*◌, ◌/◌, ◌%◌, ◌^◌}
+
+-- the state that follows `x`
+abbrev pub state_after : ℕ → ℕ
+state_after x = (x * 6364136223846793005 + 1442695040888963407) % 2 ^ 64
+
+-- which of `choices` the state `x` draws, from 0
+abbrev pub choice_at : ℕ → ℕ → ℕ
+choice_at x choices = x / 2 ^ 33 % choices
