@@ -3,6 +3,8 @@ pub mod Canonical
 pub mod Causes
 pub mod Decimal
 pub mod Draws
+pub mod Fields
+pub mod Lines
 pub mod Laws
 pub mod Params
 pub mod Ranges

@@ -1,6 +1,7 @@
 use crate::{
-    Bytes, Draws, PipeParams, Refusal, entry_tick, is_bandwidth, is_latency, is_link_type, is_loss,
-    is_queue_limit, keep_both, keep_of_ppm, read_u64, ticks_of_us, tx_ns,
+    Bytes, Draws, PipeParams, Refusal, count_lines, entry_tick, field, is_bandwidth, is_latency,
+    is_link_type, is_loss, is_queue_limit, keep_both, keep_of_ppm, read_u64, split_line,
+    ticks_of_us, tx_ns,
 };
 use std::test::Fail;
 
@@ -73,4 +74,19 @@ fn draws_from_a_number(rt: HostRuntime) {
     assert_eq!(rt; draws.draw(3), 2);
     let mut draws = Draws::new(0);
     assert_eq!(rt; draws.draw(16), 15);
+}
+
+#[test]
+fn lines_and_their_fields(rt: HostRuntime) {
+    assert_eq!(rt; count_lines(b""), 0);
+    assert_eq!(rt; count_lines(b"a\n\nb"), 3);
+    assert_eq!(rt; count_lines(b"a\nb\n"), 2);
+    assert_eq!(rt; split_line(b"a\nb\n"), (b"a".as_slice(), b"b\n".as_slice()));
+    assert_eq!(rt; split_line(b"a"), (b"a".as_slice(), b"".as_slice()));
+    assert_eq!(rt;
+        field(b"pipe 07 core 1", "pipe "),
+        Some((7, b" core 1".as_slice()))
+    );
+    assert_eq!(rt; field(b"pipe x", "pipe "), None);
+    assert_eq!(rt; field(b"pipe 18446744073709551616", "pipe "), None);
 }
