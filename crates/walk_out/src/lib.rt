@@ -9,3 +9,6 @@ mod walks;
 
 pub use parts::{Parts, hop};
 pub use walks::{walk_in, walk_out};
+
+#[cfg(test)]
+mod tests;
