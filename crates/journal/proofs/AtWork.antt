@@ -1,6 +1,5 @@
 -- What a pipe of a setup says and remembers, by the setup's definitions.
-use Rattle.std.proofs.Common.{◌≡◌, ◌⊎◌, inl, inr, ℕ, ◌<◌, ◌≤◌, Bool, true, false, cond, nat_le, ◌==◌, List, [], ◌∷◌, ◌++◌, length, map, filter, get_or, slice_get, unwrap_or, Option, Some, AllPairs, refl, sym, ap, ap₂, ◌∙◌, subst, arith, eqb-true}
-use Rattle.std.specs.Option.{option_map_or}
+use Rattle.std.proofs.Common.{◌≡◌, inl, inr, ℕ, ◌<◌, Bool, false, nat_le, ◌==◌, List, [], ◌∷◌, ◌++◌, length, map, filter, get_or, slice_get, unwrap_or, Option, Some, AllPairs, sym, ap, ap₂, ◌∙◌, subst, arith, eqb-true}
 use Rattle.std.proofs.lemmas.Bool.{lt-leb}
 use Rattle.std.proofs.lemmas.List.{get_or-map, length-map}
 use Rattle.std.proofs.lemmas.List.Kept.{AllPairs-filter}
@@ -15,9 +14,8 @@ use Rattle.pipe.specs.Finishes.{PastVisit}
 use Rattle.pipe.specs.Params.{last_params}
 use Rattle.pipe.specs.Steps.{step_at, visited}
 use Rattle.pipe.specs.PipeView.{PipeView, idle_view, StandsFor, params_at}
-use Rattle.journal.specs.declared.setup.PacketPlan.{PacketPlan}
 use Rattle.journal.specs.declared.setup.PipeChange.{PipeChange}
-use Rattle.journal.specs.SetupView.{SetupView, no_params, packet_of, len_of, first_params, params_of, changes_of}
+use Rattle.journal.specs.SetupView.{SetupView, no_params, len_of, first_params, params_of, changes_of}
 use Rattle.journal.specs.IsSetup.{IsSetup, IsChangeBefore}
 use Rattle.journal.specs.Steps.{word_place, is_lost, step_of}
 use Rattle.journal.specs.IsPipe.{SetupPipeView, IsOfSetup, IsPipe}

@@ -1,5 +1,5 @@
 -- The first visits of packets and those that follow a visit, and that each pipe delays by at least one tick.
-use Rattle.std.proofs.Common.{◌≡◌, ◌⊎◌, inl, inr, ℕ, ◌+◌, ◌*◌, ◌<◌, ◌≤◌, Bool, true, false, cond, nat_lt, nat_le, List, length, Some, None, refl, sym, ap, ◌∙◌, subst, arith, true≢false, ltb-true, lt-ltb, leb-false, le_of_mul-le-mul_right}
+use Rattle.std.proofs.Common.{◌≡◌, ℕ, ◌+◌, ◌*◌, ◌<◌, ◌≤◌, Bool, true, false, cond, nat_lt, nat_le, List, length, Some, None, refl, sym, ap, ◌∙◌, arith, true≢false, ltb-true, lt-ltb, leb-false, le_of_mul-le-mul_right}
 use Rattle.std.specs.Int.{div_ceil}
 use Rattle.std.proofs.lemmas.Grind.{div_ceil_times}
 use Rattle.mn_base.specs.Among.{Among}

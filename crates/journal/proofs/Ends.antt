@@ -1,5 +1,5 @@
 -- How the ways of packets end, and what becomes of them.
-use Rattle.std.proofs.Common.{◌≡◌, ◌⊎◌, inl, inr, ℕ, zero, suc, ◌+◌, ◌<◌, ◌≤◌, ◌==◌, true, false, List, [], ◌∷◌, ◌++◌, length, reverse, find, Option, Some, None, AllPairs, slice_index_or, refl, sym, ap, ◌∙◌, subst, arith, eqb-true, eq-eqb}
+use Rattle.std.proofs.Common.{◌≡◌, ◌⊎◌, inl, inr, ℕ, zero, suc, ◌+◌, ◌<◌, ◌≤◌, ◌==◌, true, false, List, [], ◌∷◌, ◌++◌, length, reverse, find, Option, Some, None, refl, sym, ap, ◌∙◌, subst, arith, eqb-true, eq-eqb}
 use Rattle.std.proofs.lemmas.Bool.{cases_order, false_from_ne_true}
 use Rattle.std.proofs.lemmas.List.{append_assoc}
 use Rattle.std.specs.Option.{option_map_or}
@@ -17,7 +17,7 @@ use Rattle.journal.specs.IsJournal.{scheme_of, dues}
 use Rattle.journal.specs.Journal.{journal_of}
 use Rattle.journal.specs.Fates.{fate_of_visit, last_visit}
 use Rattle.journal.specs.Laws.{EndsWay, WaysEnd, FatesHold, VisitsRise, HopsDiffer, HopsAreLater, HopsWait}
-use Rattle.mn_base.proofs.Members.{Among-index, find-none, find-behind, reverse-split, Among-reverse, Among-from-map, SplitAt, split_at, Among-append-right}
+use Rattle.mn_base.proofs.Members.{find-none, find-behind, reverse-split, Among-reverse, Among-from-map, SplitAt, split_at, Among-append-right}
 use Rattle.pipe.proofs.Origins.{rises-across, rises-pairs, due_from-first, due_from-visit}
 use Rattle.pipe.proofs.Growing.{one_visit, earlier, apart, follows}
 use Rattle.journal.proofs.Delays.{next_parts}

@@ -1,5 +1,5 @@
 -- A packet visits a pipe at most once, so a pipe has no more visits than the setup has packets.
-use Rattle.std.proofs.Common.{◌≡◌, ◌≢◌, ◌⊎◌, inl, inr, ℕ, zero, suc, ◌+◌, ◌*◌, ◌<◌, ◌≤◌, ◌==◌, Bool, true, false, cond, List, [], ◌∷◌, ◌++◌, length, map, filter, sum_by, AllPairs, slice_index, slice_index_or, refl, sym, ap, ◌∙◌, subst, arith, eqb-true, eq-eqb}
+use Rattle.std.proofs.Common.{◌≡◌, ◌≢◌, ◌⊎◌, inl, inr, ℕ, zero, suc, ◌+◌, ◌<◌, ◌≤◌, ◌==◌, Bool, true, false, cond, List, [], ◌∷◌, length, filter, AllPairs, slice_index, slice_index_or, refl, sym, ap, ◌∙◌, subst, arith, eqb-true}
 use Rattle.std.proofs.lemmas.Bool.{cases_order}
 use Rattle.std.proofs.lemmas.List.{length-map}
 use Rattle.std.proofs.lemmas.List.Sums.{sum_by-le}
@@ -11,7 +11,7 @@ use Rattle.journal.specs.declared.setup.PacketPlan.{PacketPlan}
 use Rattle.journal.specs.declared.visit.Visit.{Visit}
 use Rattle.journal.specs.SetupView.{SetupView, route_of}
 use Rattle.journal.specs.IsSetup.{IsSetup}
-use Rattle.journal.specs.Hops.{due_of, pipe_of}
+use Rattle.journal.specs.Hops.{due_of}
 use Rattle.journal.specs.Steps.{past_visit, visits_to}
 use Rattle.journal.specs.IsJournal.{scheme_of}
 use Rattle.mn_base.proofs.Members.{Among-from-filter, All-Among, index_of}

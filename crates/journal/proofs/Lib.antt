@@ -14,6 +14,7 @@ pub mod Numbers
 pub mod Orderly
 pub mod Outputs
 pub mod Packets
+pub mod PipeChanges
 pub mod Stays
 pub mod Times
 pub mod UsualDelays

@@ -1,5 +1,5 @@
 -- The maker of the journal, from one visit to the next.
-use Rattle.std.proofs.Common.{◌≡◌, ◌⊎◌, inl, inr, ⊎_elim, ℕ, ◌+◌, ◌-◌, ◌*◌, ◌^◌, ◌<◌, ◌≤◌, List, [], ◌∷◌, ◌++◌, length, map, Option, Some, None, slice_get, slice_index_or, refl, sym, ap, ◌∙◌, subst, arith}
+use Rattle.std.proofs.Common.{◌≡◌, ◌⊎◌, inl, inr, ⊎_elim, ℕ, ◌+◌, ◌*◌, ◌^◌, ◌<◌, ◌≤◌, List, [], ◌∷◌, ◌++◌, length, map, Some, None, slice_get, slice_index_or, refl, sym, ap, ◌∙◌, subst, arith}
 use Rattle.std.specs.Prelude.{◌↔◌}
 use Rattle.std.proofs.lemmas.List.{length_push}
 use Rattle.std.proofs.lemmas.List.Sums.{sum_by-le}
@@ -19,13 +19,13 @@ use Rattle.journal.specs.Hops.{pipe_of, hop_after}
 use Rattle.journal.specs.Steps.{past_visit, visits_to, visit_of}
 use Rattle.journal.specs.IsJournal.{scheme_of}
 use Rattle.journal.specs.Journal.{hop_count, journal_of}
-use Rattle.journal.specs.IsPipe.{SetupPipeView, IsPipe, ArePipes}
+use Rattle.journal.specs.IsPipe.{SetupPipeView, ArePipes}
 use Rattle.journal.specs.Held.{plain, HasNone, TakesVisit, IsIndexed, PutsNext, IsHeld, IsMaking, IsToMake}
 use Rattle.mn_base.proofs.Members.{Among-map, Among-from-map, Among-index}
 use Rattle.pipe.proofs.Growing.{growing-nil, growing-push}
 use Rattle.pipe.proofs.Pending.{held-whole, taken-due, taken-least, taken-order, taken-alone, held-push}
 use Rattle.journal.proofs.Orderly.{IsGrowing, orderly}
-use Rattle.journal.proofs.Delays.{IsNext, next_parts}
+use Rattle.journal.proofs.Delays.{next_parts}
 use Rattle.journal.proofs.Count.{growing_count}
 use Rattle.journal.proofs.Meets.{one_journal, meets}
 use Rattle.journal.proofs.Packets.{among-get, packet-known, packet-route}

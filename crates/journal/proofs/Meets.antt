@@ -1,6 +1,5 @@
 -- The two laws on journals at the scheme of a setup: there is one at most, and the list that is grown is it.
-use Rattle.std.proofs.Common.{◌≡◌, ◌≤◌, List, ◌++◌, length}
-use Rattle.pipe.specs.Scheme.{grown_by}
+use Rattle.std.proofs.Common.{◌≤◌, List, length}
 use Rattle.journal.specs.declared.visit.Visit.{Visit}
 use Rattle.journal.specs.SetupView.{SetupView}
 use Rattle.journal.specs.IsSetup.{IsSetup}

@@ -1,5 +1,5 @@
 -- The scheme of a setup is orderly: all that the laws on journals ask.
-use Rattle.std.proofs.Common.{◌≡◌, ◌⊎◌, inl, inr, ⊎_elim, ℕ, ◌+◌, ◌<◌, ◌≤◌, List, [], ◌∷◌, ◌++◌, filter_map, Some, refl, sym, ap, ◌∙◌, subst, arith}
+use Rattle.std.proofs.Common.{◌≡◌, ◌⊎◌, inl, inr, ⊎_elim, ℕ, ◌+◌, ◌<◌, ◌≤◌, List, filter_map, Some, refl, sym, ap, ◌∙◌, subst, arith}
 use Rattle.mn_base.specs.Among.{Among}
 use Rattle.mn_base.specs.declared.due.Due.{Due}
 use Rattle.pipe.specs.Scheme.{IsOrderly, AreMade, IsGrowingBy}
@@ -11,7 +11,7 @@ use Rattle.journal.specs.Hops.{due_of, pipe_of, entry, next_hop}
 use Rattle.journal.specs.Steps.{visits_to, step_of, visit_of}
 use Rattle.journal.specs.IsJournal.{scheme_of, dues}
 use Rattle.mn_base.proofs.Members.{Among-from-filter_map, Among-filter_map, AllPairs-Among, split_at}
-use Rattle.pipe.proofs.Origins.{OriginBy, origin_by}
+use Rattle.pipe.proofs.Origins.{origin_by}
 use Rattle.journal.proofs.Delays.{IsEntry, IsNext, entry_parts, next_parts, entry-is, step-latency}
 
 -- a packet's number names one packet

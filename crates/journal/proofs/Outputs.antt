@@ -1,5 +1,5 @@
 -- Every time of a journal fits, and so does every time at which a packet leaves.
-use Rattle.std.proofs.Common.{◌≡◌, ℕ, ◌+◌, ◌-◌, ◌*◌, ◌^◌, ◌<◌, ◌≤◌, List, [], ◌∷◌, length, drop, slice_index_or, refl, sym, ap, ◌∙◌, subst, arith}
+use Rattle.std.proofs.Common.{◌≡◌, ℕ, ◌+◌, ◌-◌, ◌*◌, ◌<◌, ◌≤◌, List, [], ◌∷◌, length, drop, slice_index_or, refl, sym, ap, ◌∙◌, subst, arith}
 use Rattle.mn_base.specs.Among.{Among}
 use Rattle.mn_base.specs.Times.{output_time}
 use Rattle.mn_base.specs.declared.limits.TheConstants.{TIME_NS_END, ROUTE_DELAY_NS_END, OUTPUT_NS_END, RECORD_NS_END}

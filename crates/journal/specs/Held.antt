@@ -1,5 +1,5 @@
 -- The due visits that the maker of the journal holds, each with the index of its packet.
-use Rattle.std.specs.Prelude.{◌≡◌, ◌≢◌, ◌⊎◌, ◌↔◌, ℕ, ◌+◌, ◌<◌, List, length, map, Some, slice_get}
+use Rattle.std.specs.Prelude.{◌≡◌, ◌≢◌, ◌⊎◌, ◌↔◌, ℕ, ◌<◌, List, length, map, Some, slice_get}
 use Rattle.mn_base.specs.Among.{Among}
 use Rattle.mn_base.specs.declared.due.Due.{Due}
 use Rattle.pipe.specs.declared.step.Step.{Step}

@@ -8,5 +8,6 @@ pub mod IsSetup
 pub mod Journal
 pub mod Laws
 pub mod LazyWords
+pub mod PipeChanges
 pub mod SetupView
 pub mod Steps

@@ -7,12 +7,11 @@ ghost use Rattle.journal.specs.SetupView.{packet_of, route_of};
 ghost use Rattle.journal.specs.Hops.{entry};
 ghost use Rattle.journal.specs.Steps.{visit_of};
 ghost use Rattle.journal.specs.Journal.{hop_count, journal_of};
-ghost use Rattle.journal.specs.IsPipe.{ArePipes};
 ghost use Rattle.journal.specs.Held.{plain, HasNone, IsIndexed, PutsNext, HaveEntered, IsHeld, IsMaking, IsToMake};
 
 use crate::due_visits::{DueVisit, DueVisits};
 use crate::setup::{PacketPlan, Setup};
-use crate::setup_pipe::{SetupPipe, idle_pipe};
+use crate::setup_pipe::{SetupPipe, idle_pipes};
 use crate::steps::{first_due, next_due, pipe_at};
 use crate::visit::Visit;
 use mn_base::NoMemory;
@@ -107,17 +106,6 @@ fn follow_up(
         }),
         None => Ok(()),
     }
-}
-
-/// The pipes before any visit.
-fn idle_pipes(alloc: Global, setup: &Setup) -> Result<Vec<SetupPipe>, NoMemory>
-    ensures { IfOk result (λ pipes. ArePipes setup.now [] pipes.items) }
-{
-    let mut pipes = Vec::new(alloc);
-    for number in 0..setup.parts().pipes.len() as u32 {
-        pipes.push(idle_pipe(alloc, setup, number)?)?;
-    }
-    Ok(pipes)
 }
 
 /// The packet at an index.

@@ -1,9 +1,10 @@
-ghost use Rattle.std.specs.Prelude.{◌≡◌, ◌+◌, ◌*◌, ◌<◌, ◌≤◌, ◌∷◌, ◌++◌, ◌==◌, [], List, length, map, filter, Some, IfOk, OnOk, OnErr};
+ghost use Rattle.std.specs.Prelude.{◌≡◌, ◌+◌, ◌*◌, ◌<◌, ◌≤◌, ◌∷◌, ◌++◌, ◌==◌, [], List, length, map, filter, replicate, Some, IfOk, OnOk, OnErr};
 ghost use Rattle.pipe.specs.Finishes.{PastVisit};
 ghost use Rattle.pipe.specs.PipeView.{StandsFor};
-ghost use Rattle.journal.specs.SetupView.{packet_of, len_of};
+ghost use Rattle.journal.specs.SetupView.{packet_of, len_of, changes_of};
 ghost use Rattle.journal.specs.Steps.{is_lost, step_of};
-ghost use Rattle.journal.specs.IsPipe.{IsOfSetup, IsPipe};
+ghost use Rattle.journal.specs.IsPipe.{IsOfSetup, IsPipe, ArePipes};
+ghost use Rattle.journal.specs.PipeChanges.{AreChangesOf};
 
 use crate::lazy_words::LazyWords;
 use crate::setup::{LossBy, PacketPlan, PipeChange, Setup};
@@ -13,6 +14,7 @@ use mn_base::{Due, NoMemory, PipeParams};
 use pipe::{Pipe, Step};
 use std::alloc::Global;
 use std::marker::Model;
+use std::mem;
 
 /// A pipe of a setup at work: what it remembers of its visits, and its loss words.
 #[derive(Drop)]
@@ -29,21 +31,72 @@ impl Model for SetupPipe {
     ghost view = { λ p. record { number = p.words.pipe; seed = p.words.seed; memory = p.pipe } };
 }
 
-/// The setup's pipe of a number, with its changes, before any visit.
+/// The setup's pipe of a number, with its changes, before any visit. It goes through all changes: `idle_pipes` does so once for all
+/// pipes.
 pub fn idle_pipe(alloc: Global, setup: &Setup, number: u32) -> Result<SetupPipe, NoMemory>
     requires { number < length setup.now.pipes }
     ensures { IfOk result (IsPipe setup.now [] number) }
 {
+    let changes = own_changes(alloc, &setup.parts().changes, number)?;
+    Ok(unvisited(alloc, setup, number, changes))
+}
+
+/// The pipes of a setup, each at its number, before any visit.
+pub fn idle_pipes(alloc: Global, setup: &Setup) -> Result<Vec<SetupPipe>, NoMemory>
+    ensures { IfOk result (λ pipes. ArePipes setup.now [] pipes.items) }
+{
+    let mut lists = changes_by_pipe(alloc, setup)?;
+    let mut pipes = Vec::new(alloc);
+    for number in 0..setup.parts().pipes.len() as u32 {
+        let changes = mem::replace(&mut lists[number as usize], Vec::new(alloc));
+        pipes.push(unvisited(alloc, setup, number, changes))?;
+    }
+    Ok(pipes)
+}
+
+/// A pipe of a setup before any visit, with its changes.
+fn unvisited(
+    alloc: Global,
+    setup: &Setup,
+    number: u32,
+    changes: Vec<(u64, PipeParams)>,
+) -> SetupPipe
+    requires within { number < length setup.now.pipes }
+    requires own { changes.items ≡ changes_of setup.now number }
+    ensures { IsPipe setup.now [] number result }
+{
     let parts = setup.parts();
-    let changes = changes_of(alloc, &parts.changes, number)?;
-    Ok(SetupPipe {
+    SetupPipe {
         pipe: Pipe::with_changes(alloc, parts.pipes[number as usize], changes, parts.tick_ns),
         words: LazyWords::new(parts.seed, number),
-    })
+    }
+}
+
+/// The changes of each pipe, each with its tick, at the pipe's number.
+fn changes_by_pipe(alloc: Global, setup: &Setup) -> Result<Vec<Vec<(u64, PipeParams)>>, NoMemory>
+    ensures { IfOk result (λ lists. AreChangesOf setup.now (map (λ list. list.items) lists.items)) }
+{
+    let mut lists = empty_lists(alloc, setup)?;
+    for change in &setup.parts().changes {
+        lists[change.pipe as usize].push((change.tick, change.params))?;
+    }
+    Ok(lists)
+}
+
+/// A list without a change for each pipe.
+fn empty_lists(alloc: Global, setup: &Setup) -> Result<Vec<Vec<(u64, PipeParams)>>, NoMemory>
+    ensures { IfOk result (λ lists. map (λ list. list.items) lists.items ≡ replicate (length setup.now.pipes) []) }
+{
+    let count = setup.parts().pipes.len();
+    let mut lists = Vec::new(alloc);
+    while lists.len() < count {
+        lists.push(Vec::new(alloc))?;
+    }
+    Ok(lists)
 }
 
 /// The changes of one pipe, each with its tick.
-fn changes_of(
+fn own_changes(
     alloc: Global,
     changes: &[PipeChange],
     number: u32,

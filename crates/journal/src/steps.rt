@@ -6,7 +6,7 @@ ghost use Rattle.journal.specs.SetupView.{packet_of, route_of, len_of};
 ghost use Rattle.journal.specs.Hops.{entry, hop_after};
 
 use crate::setup::{PacketPlan, Setup};
-pub use crate::setup_pipe::{SetupPipe, idle_pipe};
+pub use crate::setup_pipe::{SetupPipe, idle_pipe, idle_pipes};
 use mn_base::Due;
 use mn_base::limits::{PACKET_BYTES_MAX, ROUTE_PIPES_MAX};
 use pipe::Step;

@@ -1,4 +1,4 @@
-use Rattle.std.proofs.Common.{Some, ap, ◌∙◌, refl}
+use Rattle.std.proofs.Common.{ap, ◌∙◌, refl}
 use Rattle.journal.specs.Hops.{hop_after}
 use Rattle.journal.proofs.HeldFirst.{on_ok}
 use Rattle.journal.proofs.Making.{puts-some, puts-none, follows-packet}

@@ -1,11 +1,11 @@
-use Rattle.std.proofs.Common.{◌≡◌, ◌+◌, ◌<◌, inl, List, [], ◌∷◌, ◌++◌, length, slice_index, slice_set, refl, sym, ap, ◌∙◌, subst, arith}
+use Rattle.std.proofs.Common.{◌<◌, inl, List, [], ◌∷◌, ◌++◌, length, slice_index, slice_set, refl, ap, ◌∙◌, subst, arith}
 use Rattle.std.proofs.lemmas.Option.{slice_get_within}
 use Rattle.journal.specs.declared.visit.Visit.{Visit}
 use Rattle.journal.specs.SetupView.{route_of}
 use Rattle.journal.specs.IsPipe.{IsPipe, ArePipes}
 use Rattle.journal.specs.Held.{IsToMake}
 use Rattle.journal.proofs.VisitsTo.{Decided, made, pipe-at, pipe-order, decided-visit, decided-pipe, pipes-push}
-use Rattle.journal.proofs.Making.{IsPlanned, planned, next-indexed, next-order, next-time, next-alone, next-few, made-fits, making-next}
+use Rattle.journal.proofs.Making.{planned, next-indexed, next-order, next-time, next-alone, next-few, made-fits, making-next}
 use Rattle.journal.proofs.maker.Maker.make.Goals as goal
 
 pub packet_at-plan-requires : goal.packet_at-plan-requires

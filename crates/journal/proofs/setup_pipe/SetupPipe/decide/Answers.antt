@@ -1,8 +1,7 @@
 use Rattle.std.proofs.Common.{◌≡◌, ap, ◌∙◌}
-use Rattle.pipe.specs.PipeView.{PipeView}
 use Rattle.journal.specs.SetupView.{len_of}
 use Rattle.journal.specs.IsPipe.{SetupPipeView}
-use Rattle.journal.proofs.AtWork.{Decides, decided-step, decided-stands, stays_of_setup}
+use Rattle.journal.proofs.AtWork.{Decides, decided-step, decided-stands}
 use Rattle.journal.proofs.setup_pipe.SetupPipe.decide.Goals as goal
 
 same : (c : goal.In_ok-step) → c.self.inside.pipe ≡ c.args.self.now.memory

@@ -1,5 +1,5 @@
 use Rattle.std.proofs.Common.{ap, ◌∙◌}
-use Rattle.pipe.specs.PipeView.{PipeView, params_at}
+use Rattle.pipe.specs.PipeView.{params_at}
 use Rattle.journal.specs.IsPipe.{SetupPipeView}
 use Rattle.journal.proofs.AtWork.{never_lost}
 use Rattle.journal.proofs.setup_pipe.SetupPipe.loses.Goals as goal
