@@ -1,5 +1,5 @@
--- The word by which a packet is lost at a pipe or not.
-use Rattle.std.specs.Prelude.{ℕ, List, ◌++◌, replicate}
+-- The words by which a packet is lost at a pipe or not, and by which a queue drops it early or not.
+use Rattle.std.specs.Prelude.{ℕ, ◌+◌, ◌^◌, List, ◌++◌, replicate}
 use Rattle.std.specs.Int.{w64, to_le_bytes}
 use Rattle.rand_chacha.specs.ChaCha.{word_at, key_of}
 
@@ -15,3 +15,7 @@ key_of_seed seed = key_of (seed_bytes seed)
 -- the stream has the pipe's number
 unfoldable pub loss_word : ℕ → ℕ → ℕ → ℕ
 loss_word seed pipe place = word_at 4 (key_of_seed seed) pipe place
+
+-- the early word of a pipe at a place: the same, in a stream behind those of all loss words
+unfoldable pub early_word : ℕ → ℕ → ℕ → ℕ
+early_word seed pipe place = word_at 4 (key_of_seed seed) (2 ^ 32 + pipe) place

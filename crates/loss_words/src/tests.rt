@@ -24,6 +24,27 @@ fn words_are_those_of_another_implementation(rt: HostRuntime) {
     }
 }
 
+/// The same of early words, whose stream is 2^32 above the pipe's number.
+const EARLY_VECTORS: [(u64, u32, u32, u32); 3] = [
+    (0, 0, 0, 0x67bd_2fb6),
+    (7, 3, 20, 0x0173_0bb7),
+    (0xffff_ffff_ffff_ffff, 262_143, 1_048_575, 0x457b_b5bf),
+];
+
+#[test]
+fn early_words_are_those_of_another_implementation(rt: HostRuntime) {
+    for (seed, pipe, place, word) in EARLY_VECTORS {
+        let mut words = Words::new(seed);
+        assert_eq!(rt;
+            words.early_word(pipe, place),
+            word,
+            "seed {seed} pipe {pipe} place {place}"
+        );
+        let _ = words.word(pipe, place);
+        assert_eq!(rt; words.early_word(pipe, place), word, "once more");
+    }
+}
+
 #[test]
 fn the_words_of_one_pipe_are_those_of_another_implementation(rt: HostRuntime) {
     for (seed, pipe, place, word) in VECTORS {

@@ -1,11 +1,14 @@
 ghost use Rattle.std.specs.Prelude.{◌≡◌};
-ghost use Rattle.rand_chacha.specs.ChaCha.{of_seed};
-ghost use Rattle.loss_words.specs.Word.{loss_word, seed_bytes};
+ghost use Rattle.rand_chacha.specs.ChaCha.{of_seed, word_at};
+ghost use Rattle.loss_words.specs.Word.{early_word, loss_word, seed_bytes};
 
 use rand_chacha::ChaCha8Rng;
 use rand_core::SeedableRng;
 use rand_core::utils::NextWord;
 use std::marker::Model;
+
+/// The stream of the early words of pipe 0. The loss words of pipes have the streams below.
+const EARLY_STREAMS: u64 = 1 << 32;
 
 /// The loss words of a seed, one for each pipe and place.
 ///
@@ -46,13 +49,31 @@ impl Words {
         ensures word { result ≡ loss_word self.old pipe place }
         ensures same { self.new ≡ self.old }
     {
-        // Stream and place stand where the word before left them, so both are set. At place 0 the change of stream computes
-        // nothing.
-        self.generator.set_word_pos(0);
-        self.generator.set_stream(u64::from(pipe));
-        self.generator.set_word_pos(u128::from(place));
-        self.generator.next_word()
+        word_of_stream(&mut self.generator, u64::from(pipe), place)
     }
+
+    /// The early word of a pipe at a place, whatever was asked before: the word by which a queue that drops early decides. Its
+    /// stream is behind those of all pipes' loss words.
+    #[tactic(auto, unfolding(crate::specs::Word::early_word))]
+    pub fn early_word(&mut self, pipe: u32, place: u32) -> u32
+        ensures word { result ≡ early_word self.old pipe place }
+        ensures same { self.new ≡ self.old }
+    {
+        word_of_stream(&mut self.generator, EARLY_STREAMS + u64::from(pipe), place)
+    }
+}
+
+/// The word at a place of a stream.
+fn word_of_stream(generator: &mut ChaCha8Rng, stream: u64, place: u32) -> u32
+    ensures word { result ≡ word_at 4 generator.old.key stream place }
+    ensures key { generator.new.key ≡ generator.old.key }
+{
+    // Stream and place stand where the word before left them, so both are set. At place 0 the change of stream computes
+    // nothing.
+    generator.set_word_pos(0);
+    generator.set_stream(stream);
+    generator.set_word_pos(u128::from(place));
+    generator.next_word()
 }
 
 /// The generator of a seed, at the start of stream 0.
