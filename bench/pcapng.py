@@ -86,6 +86,8 @@ for mode in ("all", "none"):
     run("mergecap", "-F", "pcapng", "-I", mode, "-w", f"merged_{mode}.pcapng", "base.pcap", "ns.pcap")
 run("mergecap", "-F", "pcapng", "-a", "-w", "two_link_types.pcapng", "plain.pcapng", "multi_le.pcapng")
 run("tshark", "-r", "base.pcap", "-F", "pcapng", "-w", "by_tshark.pcapng")
+with open("base.pcap", "rb") as base:
+    subprocess.run(["dumpcap", "-q", "-i", "-", "-w", "by_dumpcap.pcapng"], stdin=base, capture_output=True)
 run("tshark", "-r", "multi_be.pcapng", "-F", "pcapng", "-w", "multi_by_tshark.pcapng")
 write("dump.txt", b"0000 45 00 00 14 00 01 00 00 40 11 66 d5 0a 00 00 01 0a 00 00 02\n")
 run("text2pcap", "-F", "pcapng", "-4", "10.0.0.1,10.0.0.2", "-u", "1000,2000", "dump.txt", "by_text2pcap.pcapng")

@@ -2,7 +2,7 @@
 # Captures of Wireshark's tools against tshark: each file is read, or refused with a fault, and its times and lengths are those that tshark
 # prints; 100,000 mutated copies of four of them in 200 MB; and the largest traces in pcapng and in classic pcap, in the same minute.
 #
-# usage: bench/pcapng.sh      (needs tshark, editcap, mergecap, text2pcap: Debian's tshark and wireshark-common)
+# usage: bench/pcapng.sh      (needs tshark, dumpcap, editcap, mergecap, text2pcap: Debian's tshark and wireshark-common)
 #
 # The reader is a small program over `read_capture` that is built in a copy of the repository (some minutes).
 # tshark itself counts wrongly at units below a nanosecond (its product overflows 64 bits), so those files are held against exact numbers.
