@@ -1,0 +1,9 @@
+pub mod CoreResultView
+pub mod Counts
+pub mod Known
+pub mod Lookahead
+pub mod Owners
+pub mod ParcelView
+pub mod Parcels
+pub mod Results
+pub mod Windows
