@@ -1,6 +1,6 @@
 -- The starts of windows as a list of ticks: they are apart by the length of a window at least, and each visit from the bound on is
 -- behind one of them by less than that length.
-use Rattle.std.proofs.Common.{◌≡◌, ◌⊎◌, inl, inr, ℕ, zero, suc, ◌+◌, ◌<◌, ◌≤◌, Bool, true, false, cond, nat_lt, nat_le, List, [], ◌∷◌, length, filter, Option, Some, None, slice_get, refl, sym, ap, ◌∙◌, subst, arith, ltb-true, ltb-false}
+use Rattle.std.proofs.Common.{◌≡◌, ◌⊎◌, inl, inr, ℕ, zero, suc, ◌+◌, ◌<◌, ◌≤◌, Bool, true, false, cond, nat_lt, nat_le, List, [], ◌∷◌, length, filter, Some, slice_get, refl, ap, ◌∙◌, arith, ltb-true, ltb-false}
 use Rattle.std.proofs.lemmas.Bool.{cases_lt, le-leb, lt-leb}
 use Rattle.mn_base.specs.Among.{Among}
 use Rattle.journal.specs.declared.visit.Visit.{Visit}
@@ -95,28 +95,23 @@ module _ (len : ℕ) where
 
   pub ended-rises : (t u : ℕ) (ss : List ℕ) → t ≤ u → ended len t ss ≤ ended len u ss
   ended-rises t u [] l = omega arith
-  ended-rises t u (s ∷ ss) l = go (cases_lt t (s + len)) (cases_lt u (s + len))
+  ended-rises t u (s ∷ ss) l = go (ended-rises t u ss l) (cases_lt t (s + len)) (cases_lt u (s + len))
     where
-      rest : ended len t ss ≤ ended len u ss
-      rest = ended-rises t u ss l
-
-      go : (t < s + len) ⊎ (s + len ≤ t) → (u < s + len) ⊎ (s + len ≤ u) → ended len t (s ∷ ss) ≤ ended len u (s ∷ ss)
-      go (inl a) (inl b) =
+      go : ended len t ss ≤ ended len u ss → (t < s + len) ⊎ (s + len ≤ t) → (u < s + len) ⊎ (s + len ≤ u)
+          → ended len t (s ∷ ss) ≤ ended len u (s ∷ ss)
+      go rest (inl a) (inl b) =
           let x : ended len t (s ∷ ss) ≡ ended len t ss = ended-skip t s ss a in
           let y : ended len u (s ∷ ss) ≡ ended len u ss = ended-skip u s ss b in
-          let r : ended len t ss ≤ ended len u ss = rest in
-          omega (arith, x, y, r)
-      go (inl a) (inr b) =
+          omega (arith, x, y, rest)
+      go rest (inl a) (inr b) =
           let x : ended len t (s ∷ ss) ≡ ended len t ss = ended-skip t s ss a in
           let y : ended len u (s ∷ ss) ≡ suc (ended len u ss) = ended-take u s ss b in
-          let r : ended len t ss ≤ ended len u ss = rest in
-          omega (arith, x, y, r)
-      go (inr a) (inl b) = absurd (omega arith)
-      go (inr a) (inr b) =
+          omega (arith, x, y, rest)
+      go rest (inr a) (inl b) = absurd (omega arith)
+      go rest (inr a) (inr b) =
           let x : ended len t (s ∷ ss) ≡ suc (ended len t ss) = ended-take t s ss a in
           let y : ended len u (s ∷ ss) ≡ suc (ended len u ss) = ended-take u s ss b in
-          let r : ended len t ss ≤ ended len u ss = rest in
-          omega (arith, x, y, r)
+          omega (arith, x, y, rest)
 
   -- the start of the window that a visit is in
   pub record IsCovered (ss : List ℕ) (tick : ℕ) : Type 0 where

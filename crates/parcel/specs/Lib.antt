@@ -1,6 +1,7 @@
 pub mod CoreResultView
 pub mod Counts
 pub mod Known
+pub mod Laws
 pub mod Lookahead
 pub mod Owners
 pub mod ParcelView

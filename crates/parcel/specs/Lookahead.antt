@@ -1,5 +1,5 @@
 -- The lookahead: how many ticks, at least, a packet takes from one core to another. Windows are that long.
-use Rattle.std.specs.Prelude.{◌≡◌, ◌⊎◌, ℕ, ◌==◌, ◌≤◌, not, min, List, [], ◌∷◌, map, fold, if◌then◌else◌}
+use Rattle.std.specs.Prelude.{◌≡◌, ◌⊎◌, ℕ, ◌==◌, ◌≤◌, min, List, [], ◌∷◌, map, fold, if◌then◌else◌}
 use Rattle.std.specs.List.{flat_map}
 use Rattle.mn_base.specs.Among.{Among}
 use Rattle.mn_base.specs.declared.limits.TheConstants.{LOOKAHEAD_MAX}

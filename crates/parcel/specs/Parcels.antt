@@ -19,8 +19,8 @@ use Rattle.parcel.specs.ParcelView.{ParcelView}
 pub record IsArrival (S : SetupView) (sender receiver number : ℕ) (v : Visit) : Type 0 where
   pub among : Among v (journal_of S)
   pub owner : owner_of S v.pipe ≡ receiver
-  pub core : (origin_of S v).core ≡ sender
-  pub number : (origin_of S v).number ≡ number
+  pub from_core : (origin_of S v).core ≡ sender
+  pub from_number : (origin_of S v).number ≡ number
 
 -- a packet that entered at one core, and whose last visit the other made in the window before its parcel of this number
 pub record IsDecided (S : SetupView) (sender receiver number : ℕ) (p : PacketPlan) : Type 0 where

@@ -1,11 +1,8 @@
 -- The result of a core at the end of a run: its packets as they are settled, and its counts.
-use Rattle.std.specs.Prelude.{◌≡◌, ◌≢◌, ℕ, ◌==◌, ◌&&◌, not, Bool, true, false, List, [], length, map, filter, Option, Some, None, find, AllPairs}
+use Rattle.std.specs.Prelude.{◌≡◌, ◌≢◌, ℕ, ◌==◌, ◌&&◌, not, Bool, false, List, [], length, map, filter, Option, Some, None, find, AllPairs}
 use Rattle.std.specs.Option.{option_map_or}
 use Rattle.std.specs.List.{zip}
 use Rattle.mn_base.specs.Among.{Among}
-use Rattle.pipe.specs.declared.step.Step.{Step}
-use Rattle.pipe.specs.declared.step.Step.TheVariants.{Lost, Full, Pass}
-use Rattle.pipe.specs.Finishes.{has_passed}
 use Rattle.journal.specs.declared.setup.PacketPlan.{PacketPlan}
 use Rattle.journal.specs.declared.visit.Visit.{Visit}
 use Rattle.journal.specs.declared.fate.Fate.{Fate}
@@ -13,7 +10,6 @@ use Rattle.journal.specs.declared.fate.Fate.TheVariants.{Left, Dropped}
 use Rattle.journal.specs.SetupView.{SetupView}
 use Rattle.journal.specs.Journal.{journal_of}
 use Rattle.journal.specs.Fates.{last_visit, fate_of}
-use Rattle.parcel.specs.declared.counts.PipeCounts.{PipeCounts}
 use Rattle.parcel.specs.declared.counts.CoreCounts.{CoreCounts}
 use Rattle.parcel.specs.declared.core_result.Settled.{Settled}
 use Rattle.parcel.specs.Owners.{owner_of, own_pipes}
@@ -38,7 +34,7 @@ pub record IsSettled (S : SetupView) (bytes : List (List ℕ)) (core : ℕ) (t :
   pub entered : plan.core ≡ core
   pub packet : t.packet ≡ plan.number
   pub fate : t.fate ≡ fate_of S plan
-  pub bytes : t.bytes ≡ bytes_by_fate (fate_of S plan) (bytes_of S bytes plan.number)
+  pub its_bytes : t.bytes ≡ bytes_by_fate (fate_of S plan) (bytes_of S bytes plan.number)
 
 -- whether a core made the visit that ends a packet's way
 abbrev pub is_decided_by : SetupView → ℕ → PacketPlan → Bool
