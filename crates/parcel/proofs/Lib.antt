@@ -1,6 +1,9 @@
 pub mod Crossings
+pub mod FewWindows
+pub mod InOrder
 pub mod Leasts
 pub mod Lookaheads
+pub mod Notes
 pub mod Origins
 pub mod Starts
 pub mod WindowLaws

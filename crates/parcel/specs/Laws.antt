@@ -4,12 +4,13 @@ use Rattle.mn_base.specs.Among.{Among}
 use Rattle.journal.specs.declared.visit.Visit.{Visit}
 use Rattle.journal.specs.SetupView.{SetupView}
 use Rattle.journal.specs.Journal.{journal_of}
+use Rattle.parcel.specs.declared.note.Note.{Note}
 use Rattle.parcel.specs.Owners.{owner_of}
 use Rattle.parcel.specs.Lookahead.{lookahead_of}
 use Rattle.parcel.specs.Windows.{starts_of, window_count, window_of}
 use Rattle.parcel.specs.Known.{origin_of, IsKnown, IsLeastKnown}
 use Rattle.parcel.specs.ParcelView.{ParcelView}
-use Rattle.parcel.specs.Parcels.{IsParcel}
+use Rattle.parcel.specs.Parcels.{IsNote, note_packet, IsParcel}
 
 -- the window of this number starts at this tick
 abbrev pub Starts : SetupView → ℕ → ℕ → Type 0
@@ -89,6 +90,13 @@ pub record LeastHolds (S : SetupView) : Type 0 where
   -- a core has one least tick
   pub one :
       (core number : ℕ) (a b : Option ℕ) → IsLeastKnown S core number a → IsLeastKnown S core number b → a ≡ b
+
+-- a packet has at most one note in a parcel
+abbrev pub NotesDiffer : SetupView → Type 0
+NotesDiffer S =
+    (sender receiver number : ℕ) (a b : Note) → sender ≢ receiver → IsNote S sender receiver number a
+    → IsNote S sender receiver number b → note_packet a ≡ note_packet b
+    → a ≡ b
 
 -- there is at most one parcel of each number from one core to another
 abbrev pub ParcelsAreOne : SetupView → Type 0

@@ -7,6 +7,7 @@
 
 mod core_result;
 mod counts;
+pub mod laws;
 mod note;
 mod parcel;
 
