@@ -1,5 +1,5 @@
 -- The counts of each pipe, visit by visit.
-use Rattle.std.proofs.Common.{◌≡◌, ℕ, ◌+◌, ◌^◌, ◌<◌, ◌≤◌, Bool, true, false, cond, eqb, List, [], ◌∷◌, ◌++◌, length, length-append, get_or, set, map, take, drop, All, Option, Some, None, refl, sym, ap, subst, ◌∙◌, arith, add-zero, add-one, append-nil, append_assoc, ⊎_elim}
+use Rattle.std.proofs.Common.{◌≡◌, ℕ, ◌+◌, ◌^◌, ◌<◌, ◌≤◌, Bool, cond, eqb, List, [], ◌∷◌, ◌++◌, length, length-append, get_or, set, map, take, drop, All, Some, None, refl, sym, ap, subst, ◌∙◌, arith, add-zero, add-one, append-nil, append_assoc, ⊎_elim}
 use Rattle.std.specs.Prelude.{◌&&◌}
 use Rattle.std.specs.List.{range_with_len}
 use Rattle.std.proofs.lemmas.Bool.{eq-eqb, ne_eqb, cases_eq}
@@ -12,10 +12,10 @@ use Rattle.pipe.specs.declared.step.Step.TheVariants.{Lost, Full, Pass}
 use Rattle.pipe.specs.Finishes.{has_passed}
 use Rattle.journal.specs.declared.fate.Fate.{Fate}
 use Rattle.parcel.specs.declared.counts.PipeCounts.{PipeCounts}
-use Rattle.settle.specs.IsOutcome.{has_lost, has_found_full}
+use Rattle.parcel.specs.Counts.{has_lost, has_found_full}
 use Rattle.settle.specs.Counted.{counted, HasRoom}
 use Rattle.settle.specs.Ways.{drop_step, way_from, way_of, step_count, counts_by, IsTally}
-use Rattle.settle.proofs.Lists.{as_number, many-append, many-cons}
+use Rattle.settle.proofs.Lists.{many-append, many-cons}
 
 -- no more visits are counted than there are
 step_count-le : (has : Step → Bool) (pipe : ℕ) (ways : List (ℕ × Step)) → step_count has pipe ways ≤ length ways

@@ -1,33 +1,30 @@
 -- In the journal of a setup each packet goes its way, and its fate is how that ends.
-use Rattle.std.proofs.Common.{◌≡◌, ◌≢◌, ◌⊎◌, inl, inr, ℕ, ◌+◌, ◌<◌, ◌≤◌, false, nat_lt, List, [], ◌∷◌, length, AllPairs, Some, None, refl, sym, ap, ◌∙◌, subst, arith}
-use Rattle.std.specs.Prelude.{slice_index, slice_index_or}
+use Rattle.std.proofs.Common.{◌≡◌, ◌≢◌, ◌⊎◌, inl, inr, ℕ, ◌+◌, ◌<◌, List, [], ◌∷◌, length, AllPairs, Some, None, refl, sym, ap, ◌∙◌, subst, arith}
+use Rattle.std.specs.Prelude.{slice_index}
 use Rattle.std.proofs.lemmas.Bool.{le-ltb, lt-ltb}
 use Rattle.mn_base.specs.Among.{Among}
-use Rattle.mn_base.specs.declared.causes.Cause.TheVariants.{Loss, Full as QueueFull}
 use Rattle.mn_base.proofs.Members.{Among-from-map}
 use Rattle.mn_base.specs.declared.due.Due.{Due}
 use Rattle.pipe.specs.declared.step.Step.{Step}
 use Rattle.pipe.specs.declared.step.Step.TheVariants.{Lost, Full, Pass}
-use Rattle.mn_base.specs.Canonical.{Before}
 use Rattle.pipe.specs.Scheme.{Rises}
 use Rattle.pipe.proofs.CanonicalOrder.{before-irreflexive}
 use Rattle.pipe.proofs.Origins.{due_from-first, due_from-visit}
 use Rattle.pipe.proofs.Growing.{one_visit}
 use Rattle.journal.specs.declared.setup.PacketPlan.{PacketPlan}
 use Rattle.journal.specs.declared.visit.Visit.{Visit}
-use Rattle.journal.specs.SetupView.{SetupView, packet_of, route_of}
+use Rattle.journal.specs.SetupView.{SetupView, route_of}
 use Rattle.journal.specs.IsSetup.{IsSetup}
 use Rattle.journal.specs.Hops.{due_of, hop_after, next_hop}
 use Rattle.journal.specs.IsJournal.{scheme_of, dues}
 use Rattle.journal.specs.Journal.{journal_of}
 use Rattle.journal.specs.Fates.{fate_of_step, fate_of_visit, fate_of}
-use Rattle.journal.specs.Laws.{EndsWay}
 use Rattle.journal.proofs.Delays.{IsEntry, IsNext}
 use Rattle.journal.proofs.Orderly.{IsGrowing, origin, orderly, first-due, visit-pipe}
 use Rattle.journal.proofs.Count.{hop-within, packet-of_visit}
 use Rattle.journal.proofs.Meets.{meets, journal-grows}
 use Rattle.journal.proofs.Ends.{fates_hold}
-use Rattle.journal.proofs.Packets.{HasRoute, packet-known, packet-route}
+use Rattle.journal.proofs.Packets.{packet-known, packet-route}
 use Rattle.settle.proofs.Lists.{AllDiffer}
 use Rattle.settle.proofs.Walks.{IsWalk}
 use Rattle.settle.proofs.WayCounts.{AreWalks}

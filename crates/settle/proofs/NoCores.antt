@@ -13,7 +13,8 @@ use Rattle.journal.proofs.Bare.{cores_do_not_matter}
 use Rattle.settle.specs.declared.outcome.Leaving.{Leaving}
 use Rattle.settle.specs.declared.outcome.DropLine.{DropLine}
 use Rattle.settle.specs.OutcomeView.{OutcomeView}
-use Rattle.settle.specs.IsOutcome.{leaving_of, drop_of, leavings, drop_lines, counts_of, IsOutcome}
+use Rattle.parcel.specs.Counts.{counts_of}
+use Rattle.settle.specs.IsOutcome.{leaving_of, drop_of, leavings, drop_lines, IsOutcome}
 use Rattle.settle.specs.Laws.{OutcomesReadNoCore}
 use Rattle.settle.proofs.OneOutcome.{outcomes_agree}
 

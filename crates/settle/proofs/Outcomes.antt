@@ -10,7 +10,8 @@ use Rattle.journal.specs.IsSetup.{IsSetup}
 use Rattle.journal.specs.Fates.{fate_after}
 use Rattle.settle.specs.declared.outcome.Leaving.{Leaving}
 use Rattle.settle.specs.OutcomeView.{OutcomeView}
-use Rattle.settle.specs.IsOutcome.{leaving_of, drop_of, counts_of, IsOutcome}
+use Rattle.parcel.specs.Counts.{counts_of}
+use Rattle.settle.specs.IsOutcome.{leaving_of, drop_of, IsOutcome}
 use Rattle.settle.proofs.InOrder.{tick_and_packet, pair_cmp, leavings-rise, packets-differ, sorted-in_order}
 
 -- a list of fates beside the packets is the packets, each with its fate

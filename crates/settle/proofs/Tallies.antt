@@ -1,6 +1,6 @@
 -- The counts of each pipe, packet by packet.
-use Rattle.std.proofs.Common.{◌≡◌, inl, inr, ℕ, suc, ◌+◌, ◌-◌, ◌*◌, ◌^◌, ◌<◌, ◌≤◌, List, [], ◌∷◌, ◌++◌, length, get_or, map, take, drop, AllPairs, Option, Some, None, slice_get, refl, sym, ap, ◌∙◌, subst, arith, append-nil}
-use Rattle.std.specs.List.{flat_map, range_with_len}
+use Rattle.std.proofs.Common.{◌≡◌, inl, inr, ℕ, ◌+◌, ◌-◌, ◌*◌, ◌<◌, ◌≤◌, List, [], ◌∷◌, ◌++◌, length, get_or, map, take, drop, Option, Some, None, slice_get, refl, sym, ap, ◌∙◌, subst, arith, append-nil}
+use Rattle.std.specs.List.{range_with_len}
 use Rattle.std.proofs.lemmas.List.{get_or-map, length-append, length-take-le, length-map, take-append-drop, take_more, take_all}
 use Rattle.std.proofs.lemmas.List.FromFn.{length-map-range_with_len}
 use Rattle.std.proofs.lemmas.Grind.{flat_map-append}
@@ -11,13 +11,13 @@ use Rattle.mn_base.proofs.Members.{All-Among, Among-append-left}
 use Rattle.pipe.specs.declared.step.Step.{Step}
 use Rattle.journal.specs.declared.setup.PacketPlan.{PacketPlan}
 use Rattle.journal.specs.declared.fate.Fate.{Fate}
-use Rattle.journal.specs.SetupView.{SetupView, packet_of, route_of}
+use Rattle.journal.specs.SetupView.{SetupView, route_of}
 use Rattle.journal.specs.IsSetup.{IsSetup}
 use Rattle.journal.specs.Journal.{journal_of}
 use Rattle.journal.specs.Fates.{fate_of}
 use Rattle.journal.proofs.Packets.{packet-known, packet-route}
 use Rattle.parcel.specs.declared.counts.PipeCounts.{PipeCounts}
-use Rattle.settle.specs.IsOutcome.{counts_of}
+use Rattle.parcel.specs.Counts.{counts_of}
 use Rattle.settle.specs.Ways.{drop_step, way_from, way_of, ways_of, counts_by, IsTally}
 use Rattle.settle.proofs.ByPacket.{NumbersRise, numbers_rise-tail, numbers_rise-head}
 use Rattle.settle.proofs.WayCounts.{counts_by-ways}

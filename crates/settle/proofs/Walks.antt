@@ -1,5 +1,5 @@
 -- What a packet did at the pipes of its route, by the list of all visits and by its fate.
-use Rattle.std.proofs.Common.{◌≡◌, ◌≢◌, ◌⊎◌, inl, inr, ⊎_elim, ℕ, zero, suc, ◌+◌, ◌-◌, ◌<◌, ◌≤◌, Bool, true, false, cond, eqb, leb, nat_lt, List, [], ◌∷◌, length, get_or, drop, All, AllPairs, Option, Some, None, refl, sym, ap, ◌∙◌, subst, arith, true≢false, add-one, add-zero}
+use Rattle.std.proofs.Common.{◌≡◌, ◌≢◌, ◌⊎◌, inl, inr, ℕ, zero, suc, ◌+◌, ◌-◌, ◌<◌, ◌≤◌, Bool, true, false, eqb, leb, List, [], ◌∷◌, length, drop, AllPairs, None, refl, sym, ap, ◌∙◌, subst, arith, add-one}
 use Rattle.std.specs.Prelude.{◌&&◌, slice_index}
 use Rattle.std.proofs.lemmas.Bool.{eq-eqb, ne_eqb, le-leb, lt-leb, leb-true, eqb-true, cases_order, and_parts}
 use Rattle.std.proofs.lemmas.List.{get_or-drop, length-drop}
@@ -10,7 +10,6 @@ use Rattle.mn_base.specs.declared.causes.Cause.TheVariants.{Loss, Full as QueueF
 use Rattle.mn_base.proofs.Members.{All-Among}
 use Rattle.pipe.specs.declared.step.Step.{Step}
 use Rattle.pipe.specs.declared.step.Step.TheVariants.{Lost, Full, Pass}
-use Rattle.journal.specs.declared.setup.PacketPlan.{PacketPlan}
 use Rattle.journal.specs.declared.visit.Visit.{Visit}
 use Rattle.journal.specs.declared.fate.Fate.{Fate}
 use Rattle.journal.specs.declared.fate.Fate.TheVariants.{Left, Dropped}

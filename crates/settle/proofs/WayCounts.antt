@@ -1,5 +1,5 @@
 -- The counts of each pipe, by the fates of the packets: what the packets did along their ways is what the visits say.
-use Rattle.std.proofs.Common.{◌≡◌, ℕ, Bool, eqb, List, sum_by, sym, ap, ◌∙◌, refl}
+use Rattle.std.proofs.Common.{◌≡◌, ℕ, Bool, eqb, List, sym, ap, ◌∙◌, refl}
 use Rattle.std.specs.Prelude.{◌&&◌}
 use Rattle.mn_base.specs.Among.{Among}
 use Rattle.pipe.specs.declared.step.Step.{Step}
@@ -8,8 +8,7 @@ use Rattle.journal.specs.declared.setup.PacketPlan.{PacketPlan}
 use Rattle.journal.specs.declared.visit.Visit.{Visit}
 use Rattle.journal.specs.declared.fate.Fate.{Fate}
 use Rattle.journal.specs.SetupView.{SetupView, route_of}
-use Rattle.parcel.specs.declared.counts.PipeCounts.{PipeCounts}
-use Rattle.settle.specs.IsOutcome.{has_lost, has_found_full, visit_count, counts_of}
+use Rattle.parcel.specs.Counts.{has_lost, has_found_full, visit_count, counts_of}
 use Rattle.settle.specs.Ways.{way_of, ways_of, step_count, counts_by}
 use Rattle.settle.proofs.Lists.{many, many-flat_map, sum_by-same}
 use Rattle.settle.proofs.ByPacket.{NumbersRise, many-by_packet}

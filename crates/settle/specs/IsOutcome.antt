@@ -1,16 +1,13 @@
 -- The outcome of a setup: what became of its packets, and of the visits to its pipes, by the list of all visits.
-use Rattle.std.specs.Prelude.{◌≡◌, ◌⊎◌, ℕ, ◌<◌, ◌==◌, ◌&&◌, Bool, true, false, List, length, map, filter, filter_map, AllPairs, Option, Some, None}
+use Rattle.std.specs.Prelude.{◌≡◌, ◌⊎◌, ℕ, ◌<◌, List, length, map, filter_map, AllPairs, Option, Some, None}
 use Rattle.std.specs.List.{zip, range_with_len}
 use Rattle.std.specs.List.Sorted.{IsPermutation}
-use Rattle.pipe.specs.declared.step.Step.{Step}
-use Rattle.pipe.specs.declared.step.Step.TheVariants.{Lost, Full, Pass}
-use Rattle.pipe.specs.Finishes.{has_passed}
 use Rattle.journal.specs.declared.visit.Visit.{Visit}
 use Rattle.journal.specs.declared.fate.Fate.{Fate}
 use Rattle.journal.specs.declared.fate.Fate.TheVariants.{Left, Dropped}
 use Rattle.journal.specs.SetupView.{SetupView}
 use Rattle.journal.specs.Fates.{fate_after}
-use Rattle.parcel.specs.declared.counts.PipeCounts.{PipeCounts}
+use Rattle.parcel.specs.Counts.{counts_of}
 use Rattle.settle.specs.declared.outcome.Leaving.{Leaving}
 use Rattle.settle.specs.declared.outcome.DropLine.{DropLine}
 use Rattle.settle.specs.OutcomeView.{OutcomeView}
@@ -33,29 +30,6 @@ leavings S J bytes = filter_map (λ p. leaving_of p.0.number p.1 (fate_after J p
 -- the packets that were dropped, in packet order
 abbrev pub drop_lines : SetupView → List Visit → List DropLine
 drop_lines S J = filter_map (λ p. drop_of p.number (fate_after J p)) S.packets
-
-abbrev pub has_lost : Step → Bool
-has_lost Lost = true
-has_lost Full = false
-has_lost (Pass exit) = false
-
-abbrev pub has_found_full : Step → Bool
-has_found_full Lost = false
-has_found_full Full = true
-has_found_full (Pass exit) = false
-
--- how many visits of J to a pipe had such an outcome
-abbrev pub visit_count : (Step → Bool) → ℕ → List Visit → ℕ
-visit_count has pipe J = length (filter (λ v. (v.pipe == pipe) && has v.step) J)
-
--- what became of the visits of J to a pipe
-abbrev pub counts_of : List Visit → ℕ → PipeCounts
-counts_of J pipe = record {
-  pipe = pipe;
-  passed = visit_count has_passed pipe J;
-  lost = visit_count has_lost pipe J;
-  full = visit_count has_found_full pipe J;
-}
 
 -- the order in which packets are written: by tick, then by packet number
 abbrev pub LeavesBefore : Leaving → Leaving → Type 0

@@ -11,7 +11,7 @@ use Rattle.journal.specs.declared.fate.Fate.{Fate}
 use Rattle.journal.specs.declared.fate.Fate.TheVariants.{Left, Dropped}
 use Rattle.journal.specs.SetupView.{SetupView, route_of}
 use Rattle.parcel.specs.declared.counts.PipeCounts.{PipeCounts}
-use Rattle.settle.specs.IsOutcome.{has_lost, has_found_full}
+use Rattle.parcel.specs.Counts.{has_lost, has_found_full}
 
 -- the step that drops a packet for this cause
 abbrev pub step_of_cause : Cause → Step

@@ -1,6 +1,5 @@
-use Rattle.std.proofs.Common.{length, sym, ap, ◌∙◌, arith}
+use Rattle.std.proofs.Common.{length, ap, ◌∙◌, arith}
 use Rattle.std.proofs.lemmas.List.{get_or_default, length-map}
-use Rattle.journal.specs.SetupView.{SetupView}
 use Rattle.journal.specs.Fates.{fate_of}
 use Rattle.settle.proofs.Tallies.{tally-below, below-long, below-more, below-all}
 use Rattle.settle.proofs.counting.count_visits.Goals as goal

@@ -1,5 +1,4 @@
-use Rattle.pipe.specs.declared.step.Step.{Step}
-use Rattle.std.proofs.Common.{◌≡◌, ℕ, List, Option, Some, None, get_or, ap, sym, refl}
+use Rattle.std.proofs.Common.{sym, refl}
 use Rattle.settle.proofs.Counts.{counting-room, counting-passes, counting-drops}
 use Rattle.settle.proofs.counting.count_way.Goals as goal
 
