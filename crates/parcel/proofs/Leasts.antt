@@ -1,4 +1,4 @@
--- Which core knows of a visit that is ahead, and that the least tick of which any core knows starts the next window.
+-- Which core knows of a visit in sight, and that the least tick of which any core knows starts the next window.
 use Rattle.std.proofs.Common.{◌≡◌, ◌≢◌, ◌⊎◌, inl, inr, ℕ, ◌+◌, ◌<◌, ◌≤◌, Option, Some, None, refl, sym, ap, ◌∙◌, subst, arith}
 use Rattle.std.proofs.lemmas.Bool.{cases_lt, cases_order}
 use Rattle.mn_base.specs.Among.{Among}
@@ -9,13 +9,13 @@ use Rattle.journal.specs.Journal.{journal_of}
 use Rattle.parcel.specs.Owners.{owner_of}
 use Rattle.parcel.specs.Windows.{window_count, window_of}
 use Rattle.parcel.specs.Known.{Origin, origin_of, KnowsOf, IsKnown, IsLeastKnown}
-use Rattle.parcel.specs.Laws.{Starts, IsAhead, LeastHolds}
+use Rattle.parcel.specs.Laws.{Starts, IsInSight, LeastHolds}
 use Rattle.journal.proofs.Ends.{hops_are_later}
 use Rattle.parcel.proofs.WindowLaws.{starts-visit, starts-window, counted-starts, window-late, window-early, windows_hold}
 use Rattle.parcel.proofs.Origins.{Comes, comes, origin-first, origin-next, owner-below, origin-below}
 
 module _ (S : SetupView) (is : IsSetup S) where
-  pub keeper : (number : ℕ) (v : Visit) → IsAhead S number v → (core : ℕ) × (core < S.cores) × IsKnown S core number v
+  pub keeper : (number : ℕ) (v : Visit) → IsInSight S number v → (core : ℕ) × (core < S.cores) × IsKnown S core number v
   keeper number v i = go (cases_order (owner_of S v.pipe) (origin_of S v).core) (cases_order (origin_of S v).number number)
     where
       told : (origin_of S v).number ≤ number
@@ -40,7 +40,7 @@ module _ (S : SetupView) (is : IsSetup S) where
       go (inr (inl l)) n = away (λ same. omega (arith, l, same)) n
       go (inr (inr l)) n = away (λ same. omega (arith, l, same)) n
 
-  -- a visit that a core knows of is ahead
+  -- a visit that a core knows of is in sight
   pub known-told : (number core : ℕ) (v : Visit) → IsKnown S core number v → (origin_of S v).number ≤ number
   known-told number core v k = go k.knows
     where
@@ -68,8 +68,8 @@ module _ (S : SetupView) (is : IsSetup S) where
       go i j (inr (inr m)) (inr (inr n)) = sym m.1 ∙ n.1
 
   -- the visit that starts a window comes of an earlier one
-  pub start-ahead : (number : ℕ) (v : Visit) → Among v (journal_of S) → Starts S number v.tick → IsAhead S number v
-  start-ahead number v a s = record { among = a; window = here; told = go (comes S is v a) }
+  pub start-in_sight : (number : ℕ) (v : Visit) → Among v (journal_of S) → Starts S number v.tick → IsInSight S number v
+  start-in_sight number v a s = record { among = a; window = here; told = go (comes S is v a) }
     where
       here : number ≤ window_of S v.tick
       here = let e : window_of S v.tick ≡ number = starts-window S number v.tick s in omega (arith, e)
@@ -97,7 +97,7 @@ module _ (S : SetupView) (is : IsSetup S) where
   least-reached number start s =
       let v = starts-visit S number start s in
       let here : Starts S number v.0.tick = subst (λ (t : ℕ). Starts S number t) (sym v.2) s in
-      let k = keeper number v.0 (start-ahead number v.0 v.1 here) in
+      let k = keeper number v.0 (start-in_sight number v.0 v.1 here) in
       (k.0, k.1, ((v.0, k.2, v.2), λ w j. known-late number start k.0 w s j))
 
   -- behind the last window nothing is known
@@ -122,7 +122,7 @@ module _ (S : SetupView) (is : IsSetup S) where
   least_holds = record {
     keeper = keeper;
     alone = alone;
-    ahead = start-ahead;
+    in_sight = start-in_sight;
     bound = least-late;
     reached = least-reached;
     ends = λ number l. (ended number l, λ e core below. known-none number core (omega (arith, e)));

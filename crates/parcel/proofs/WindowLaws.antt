@@ -11,7 +11,7 @@ use Rattle.journal.specs.Hops.{due_of}
 use Rattle.journal.specs.IsJournal.{scheme_of}
 use Rattle.journal.specs.Journal.{journal_of}
 use Rattle.parcel.specs.Lookahead.{lookahead_of}
-use Rattle.parcel.specs.Windows.{starts_of, window_count, window_of}
+use Rattle.parcel.specs.Windows.{window_starts, window_count, window_of}
 use Rattle.parcel.specs.Laws.{Starts, IsInWindow, WindowsHold}
 use Rattle.pipe.proofs.CanonicalOrder.{before-tick}
 use Rattle.journal.proofs.Meets.{meets}
@@ -23,11 +23,11 @@ ticks-rise S [] r = tt
 ticks-rise S (v ∷ J) r = (λ w a. before-tick (due_of v) (due_of w) (r.0 w a), ticks-rise S J r.1)
 
 -- the window of a tick counts the windows that have ended by then
-pub window-is : (S : SetupView) (tick : ℕ) → window_of S tick ≡ ended (lookahead_of S) tick (starts_of S)
+pub window-is : (S : SetupView) (tick : ℕ) → window_of S tick ≡ ended (lookahead_of S) tick (window_starts S)
 unfolding window_of
 window-is S tick = refl
 
-pub count-is : (S : SetupView) → window_count S ≡ length (starts_of S)
+pub count-is : (S : SetupView) → window_count S ≡ length (window_starts S)
 unfolding window_count
 count-is S = refl
 
@@ -35,44 +35,44 @@ module _ (S : SetupView) where
   len : ℕ
   len = lookahead_of S
 
-  spaced : AreSpaced (lookahead_of S) 0 (starts_of S)
+  spaced : AreSpaced (lookahead_of S) 0 (window_starts S)
   spaced = starts-spaced (lookahead_of S) 0 (journal_of S)
 
   -- a later window has a later tick
   pub window-rises : (t u : ℕ) → t ≤ u → window_of S t ≤ window_of S u
   window-rises t u l =
-      let a : window_of S t ≡ ended (lookahead_of S) t (starts_of S) = window-is S t in
-      let b : window_of S u ≡ ended (lookahead_of S) u (starts_of S) = window-is S u in
-      let r : ended (lookahead_of S) t (starts_of S) ≤ ended (lookahead_of S) u (starts_of S) = ended-rises (lookahead_of S) t u (starts_of S) l in
+      let a : window_of S t ≡ ended (lookahead_of S) t (window_starts S) = window-is S t in
+      let b : window_of S u ≡ ended (lookahead_of S) u (window_starts S) = window-is S u in
+      let r : ended (lookahead_of S) t (window_starts S) ≤ ended (lookahead_of S) u (window_starts S) = ended-rises (lookahead_of S) t u (window_starts S) l in
       omega (arith, a, b, r)
 
   -- starts are numbered as windows are
   pub window-in : (number tick : ℕ) → IsInWindow S number tick → window_of S tick ≡ number
   window-in number tick i =
-      window-is S tick ∙ ended-in (lookahead_of S) tick 0 (starts_of S) number i.start spaced i.starts i.low i.high
+      window-is S tick ∙ ended-in (lookahead_of S) tick 0 (window_starts S) number i.start spaced i.starts i.low i.high
 
   -- from the end of a window on only later windows come
   pub window-past : (number start tick : ℕ) → Starts S number start → start + lookahead_of S ≤ tick → number < window_of S tick
   window-past number start tick s l =
-      let a : window_of S tick ≡ ended (lookahead_of S) tick (starts_of S) = window-is S tick in
-      let r : number + 1 ≤ ended (lookahead_of S) tick (starts_of S) =
-      ended-past (lookahead_of S) tick 0 (starts_of S) number start spaced s l in
+      let a : window_of S tick ≡ ended (lookahead_of S) tick (window_starts S) = window-is S tick in
+      let r : number + 1 ≤ ended (lookahead_of S) tick (window_starts S) =
+      ended-past (lookahead_of S) tick 0 (window_starts S) number start spaced s l in
       omega (arith, a, r)
 
   -- of two starts the one with the greater number is at the other's end or later
   pub starts-apart : (m n s t : ℕ) → Starts S m s → Starts S n t → m < n → s + lookahead_of S ≤ t
-  starts-apart m n s t a b l = start-apart (lookahead_of S) 0 (starts_of S) m n s t spaced a b l
+  starts-apart m n s t a b l = start-apart (lookahead_of S) 0 (window_starts S) m n s t spaced a b l
 
   pub starts-counted : (number start : ℕ) → Starts S number start → number < window_count S
   starts-counted number start s =
-      let e : window_count S ≡ length (starts_of S) = count-is S in
-      let l : number < length (starts_of S) = slice_get_within (starts_of S) number start s in
+      let e : window_count S ≡ length (window_starts S) = count-is S in
+      let l : number < length (window_starts S) = slice_get_within (window_starts S) number start s in
       omega (arith, e, l)
 
   pub counted-starts : (number : ℕ) → number < window_count S → (start : ℕ) × Starts S number start
   counted-starts number l =
-      let e : window_count S ≡ length (starts_of S) = count-is S in
-      (_, slice_get-get_or (starts_of S) number 0 (omega (arith, e, l)))
+      let e : window_count S ≡ length (window_starts S) = count-is S in
+      (_, slice_get-get_or (window_starts S) number 0 (omega (arith, e, l)))
 
   -- a window starts with a visit
   pub starts-visit : (number start : ℕ) → Starts S number start → (v : Visit) × Among v (journal_of S) × (v.tick ≡ start)

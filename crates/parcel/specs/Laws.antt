@@ -7,14 +7,14 @@ use Rattle.journal.specs.Journal.{journal_of}
 use Rattle.parcel.specs.declared.note.Note.{Note}
 use Rattle.parcel.specs.Owners.{owner_of}
 use Rattle.parcel.specs.Lookahead.{lookahead_of}
-use Rattle.parcel.specs.Windows.{starts_of, window_count, window_of}
+use Rattle.parcel.specs.Windows.{window_starts, window_count, window_of}
 use Rattle.parcel.specs.Known.{origin_of, IsKnown, IsLeastKnown}
 use Rattle.parcel.specs.ParcelView.{ParcelView}
 use Rattle.parcel.specs.Parcels.{IsNote, note_packet, IsParcel}
 
 -- the window of this number starts at this tick
 abbrev pub Starts : SetupView → ℕ → ℕ → Type 0
-Starts S number tick = slice_get (starts_of S) number ≡ Some tick
+Starts S number tick = slice_get (window_starts S) number ≡ Some tick
 
 -- this tick is the least one of a visit that is at `bound` or later
 pub record IsLeastFrom (S : SetupView) (bound tick : ℕ) : Type 0 where
@@ -60,22 +60,22 @@ LookaheadHolds S =
     → (origin_of S v).number ≤ window_of S v.tick
 
 -- a visit that isn't run before the window of this number, and of which some core knows by its parcels of this number
-pub record IsAhead (S : SetupView) (number : ℕ) (v : Visit) : Type 0 where
+pub record IsInSight (S : SetupView) (number : ℕ) (v : Visit) : Type 0 where
   pub among : Among v (journal_of S)
   pub window : number ≤ window_of S v.tick
   pub told : (origin_of S v).number ≤ number
 
--- each visit that is ahead is known to exactly one core, and the least of the least ticks that all cores know starts the window
+-- each visit in sight is known to exactly one core, and the least of the least ticks that all cores know starts the window
 pub record LeastHolds (S : SetupView) : Type 0 where
-  -- a visit that is ahead is known to one core
+  -- a visit in sight is known to one core
   pub keeper :
-      (number : ℕ) (v : Visit) → IsAhead S number v → (core : ℕ) × (core < S.cores) × IsKnown S core number v
+      (number : ℕ) (v : Visit) → IsInSight S number v → (core : ℕ) × (core < S.cores) × IsKnown S core number v
   -- and to no other
   pub alone :
       (number : ℕ) (v : Visit) (core other : ℕ) → IsKnown S core number v → IsKnown S other number v → core ≡ other
-  -- the visit that starts a window is ahead
-  pub ahead :
-      (number : ℕ) (v : Visit) → Among v (journal_of S) → Starts S number v.tick → IsAhead S number v
+  -- the visit that starts a window is in sight
+  pub in_sight :
+      (number : ℕ) (v : Visit) → Among v (journal_of S) → Starts S number v.tick → IsInSight S number v
   -- so no core knows of a tick before that start
   pub bound :
       (number start core tick : ℕ) → Starts S number start → IsLeastKnown S core number (Some tick) → start ≤ tick

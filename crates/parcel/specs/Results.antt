@@ -19,8 +19,8 @@ use Rattle.parcel.specs.Counts.{counts_of}
 use Rattle.parcel.specs.CoreResultView.{CoreResultView}
 
 -- the bytes of the packet of a number, where each packet of the setup has its bytes
-abbrev pub bytes_of : SetupView → List (List ℕ) → ℕ → List ℕ
-bytes_of S bytes number = option_map_or (λ e. e.1) (find (λ e. e.0.number == number) (zip S.packets bytes)) []
+abbrev pub packet_bytes : SetupView → List (List ℕ) → ℕ → List ℕ
+packet_bytes S bytes number = option_map_or (λ e. e.1) (find (λ e. e.0.number == number) (zip S.packets bytes)) []
 
 -- bytes go with a packet that left, and with no other
 abbrev pub bytes_by_fate : Fate → List ℕ → Option (List ℕ)
@@ -34,7 +34,7 @@ pub record IsSettled (S : SetupView) (bytes : List (List ℕ)) (core : ℕ) (t :
   pub entered : plan.core ≡ core
   pub packet : t.packet ≡ plan.number
   pub fate : t.fate ≡ fate_of S plan
-  pub its_bytes : t.bytes ≡ bytes_by_fate (fate_of S plan) (bytes_of S bytes plan.number)
+  pub its_bytes : t.bytes ≡ bytes_by_fate (fate_of S plan) (packet_bytes S bytes plan.number)
 
 -- whether a core made the visit that ends a packet's way
 abbrev pub is_decided_by : SetupView → ℕ → PacketPlan → Bool

@@ -16,13 +16,13 @@ starts_from len bound (v ∷ J) =
     else v.tick ∷ starts_from len (v.tick + len) J
 
 -- the ticks at which the windows of a setup start
-abbrev pub starts_of : SetupView → List ℕ
-starts_of S = starts_from (lookahead_of S) 0 (journal_of S)
+abbrev pub window_starts : SetupView → List ℕ
+window_starts S = starts_from (lookahead_of S) 0 (journal_of S)
 
 -- how many windows there are
 unfoldable pub window_count : SetupView → ℕ
-window_count S = length (starts_of S)
+window_count S = length (window_starts S)
 
 -- the number of the window that has this tick: as many windows end by then
 unfoldable pub window_of : SetupView → ℕ → ℕ
-window_of S tick = length (filter (λ start. nat_le (start + lookahead_of S) tick) (starts_of S))
+window_of S tick = length (filter (λ start. nat_le (start + lookahead_of S) tick) (window_starts S))

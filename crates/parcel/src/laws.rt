@@ -35,7 +35,7 @@ pub fn lookahead_holds(setup: &Setup)
     let _parts = setup.parts();
 }
 
-/// Each visit that is ahead is known to exactly one core; the least of the cores' least ticks starts the next window, and none has
+/// Each visit in sight is known to exactly one core; the least of the cores' least ticks starts the next window, and none has
 /// one exactly where all windows are run.
 pub fn least_holds(setup: &Setup)
     ensures { LeastHolds setup.now }

@@ -15,3 +15,6 @@ pub use core_result::{CoreResult, Settled};
 pub use counts::{CoreCounts, PipeCounts};
 pub use note::Note;
 pub use parcel::Parcel;
+
+#[cfg(test)]
+mod tests;

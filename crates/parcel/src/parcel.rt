@@ -1,3 +1,7 @@
+ghost use Rattle.std.specs.Prelude.{◌≡◌, ◌≢◌, map, AllPairs};
+ghost use Rattle.std.specs.List.Sorted.{IsPermutation};
+ghost use Rattle.parcel.specs.Parcels.{note_packet, NoteBefore};
+
 use crate::note::Note;
 use std::marker::Model;
 
@@ -16,4 +20,19 @@ impl Model for Parcel {
     ghost Value = { ParcelView };
 
     ghost view = { λ p. record { notes = p.notes.items; least = p.least } };
+}
+
+impl Parcel {
+    /// The parcel of these notes, which are put in order, and this least tick. It takes no memory.
+    pub fn in_order(notes: Vec<Note>, least: Option<u64>) -> Parcel
+        // no packet has two of them
+        requires { AllPairs (λ a b. a ≢ b) (map note_packet notes.items) }
+        ensures rises { AllPairs NoteBefore result.notes }
+        ensures same { IsPermutation notes.items result.notes }
+        ensures least { result.least ≡ least }
+    {
+        let mut notes = notes;
+        notes.sort_unstable_by_key(|note| (note.tick(), note.packet()));
+        Parcel { notes, least }
+    }
 }

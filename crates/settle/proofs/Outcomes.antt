@@ -12,7 +12,8 @@ use Rattle.settle.specs.declared.outcome.Leaving.{Leaving}
 use Rattle.settle.specs.OutcomeView.{OutcomeView}
 use Rattle.parcel.specs.Counts.{counts_of}
 use Rattle.settle.specs.IsOutcome.{leaving_of, drop_of, IsOutcome}
-use Rattle.settle.proofs.InOrder.{tick_and_packet, pair_cmp, leavings-rise, packets-differ, sorted-in_order}
+use Rattle.parcel.proofs.InOrder.{pair_cmp}
+use Rattle.settle.proofs.InOrder.{tick_and_packet, leavings-rise, packets-differ, sorted-in_order}
 
 -- a list of fates beside the packets is the packets, each with its fate
 leavings-beside : (fate : PacketPlan → Fate) (ps : List PacketPlan) (bytes : List (List ℕ))
