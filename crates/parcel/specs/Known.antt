@@ -1,4 +1,4 @@
--- Which core is told of a visit, and when: the parcel that has its note, or would have it if the sender's own visits had notes.
+-- Where the knowledge of a visit comes from, and what a core knows of as it makes its parcels of a number.
 use Rattle.std.specs.Prelude.{◌≡◌, ◌≢◌, ◌⊎◌, ℕ, ◌+◌, ◌<◌, ◌≤◌, ◌==◌, ◌&&◌, Option, Some, None, find}
 use Rattle.mn_base.specs.Among.{Among}
 use Rattle.journal.specs.declared.visit.Visit.{Visit}
