@@ -1,9 +1,11 @@
 pub mod Crossings
+pub mod Due
 pub mod FewWindows
 pub mod InOrder
 pub mod Leasts
 pub mod Lookaheads
 pub mod Notes
 pub mod Origins
+pub mod Sending
 pub mod Starts
 pub mod WindowLaws

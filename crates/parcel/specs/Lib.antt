@@ -1,5 +1,6 @@
 pub mod CoreResultView
 pub mod Counts
+pub mod DueAt
 pub mod Known
 pub mod Laws
 pub mod Lookahead
@@ -7,4 +8,5 @@ pub mod Owners
 pub mod ParcelView
 pub mod Parcels
 pub mod Results
+pub mod Told
 pub mod Windows
