@@ -1,0 +1,10 @@
+use Rattle.changes.proofs.TheLaws.{gives_split, gives_fault}
+use Rattle.changes.proofs.reading.read_changes.Goals as goal
+
+pub returns-clause-only_split : goal.returns-clause-only_split
+returns-clause-only_split c = λ split.
+    gives_split c.args.text.now c.args.cores c.args.pipes c.split_text.result split c.split_text.ensures.found c.split_text.ensures.fault
+
+pub returns-clause-only_fault : goal.returns-clause-only_fault
+returns-clause-only_fault c = λ fault.
+    gives_fault c.args.text.now c.args.cores c.args.pipes c.split_text.result fault c.split_text.ensures.found c.split_text.ensures.fault
