@@ -1,0 +1,4 @@
+pub mod Lines
+pub mod Packets
+pub mod Sizes
+pub mod States

@@ -1,0 +1,3 @@
+pub mod Gml
+pub mod Stream
+pub mod Trace
