@@ -3,7 +3,7 @@ use Rattle.std.proofs.Common.{◌≡◌, ℕ, zero, suc, ◌+◌, ◌*◌, ◌%�
 use Rattle.std.specs.List.{flat_map, range_with_len}
 use Rattle.std.proofs.lemmas.List.{flat_map_more}
 use Rattle.workload.specs.declared.shape.TheConstants.{ROUTERS, CHORDS}
-use Rattle.workload.specs.Stream.{state_at}
+use Rattle.mn_base.specs.Draws.{state_at}
 use Rattle.workload.specs.Gml.{router_line, host_line, trunk_line, access_line, router_lines, host_lines, ring_lines, chord_lines, access_lines}
 
 append-nil : {X : Type 0} (xs : List X) → xs ++ [] ≡ xs
@@ -31,7 +31,8 @@ pub no_routers : (before : List ℕ) → before ≡ before ++ router_lines 0
 unfolding router_lines
 no_routers before = sym (append-nil before)
 
-pub next_router : (i : ℕ) (before now now' : List ℕ) → now ≡ before ++ router_lines i → now' ≡ now ++ router_line i → now' ≡ before ++ router_lines (i + 1)
+pub next_router : (i : ℕ) (before now now' : List ℕ) → now ≡ before ++ router_lines i → now' ≡ now ++ router_line i
+    → now' ≡ before ++ router_lines (i + 1)
 unfolding router_lines
 next_router i before now now' so_far is = next_line router_line i before now now' so_far is
 
@@ -39,7 +40,8 @@ pub no_hosts : (before : List ℕ) → before ≡ before ++ host_lines 0
 unfolding host_lines
 no_hosts before = sym (append-nil before)
 
-pub next_host : (i : ℕ) (before now now' : List ℕ) → now ≡ before ++ host_lines i → now' ≡ now ++ host_line i → now' ≡ before ++ host_lines (i + 1)
+pub next_host : (i : ℕ) (before now now' : List ℕ) → now ≡ before ++ host_lines i → now' ≡ now ++ host_line i
+    → now' ≡ before ++ host_lines (i + 1)
 unfolding host_lines
 next_host i before now now' so_far is = next_line host_line i before now now' so_far is
 

@@ -9,14 +9,15 @@ use Rattle.mn_base.specs.declared.limits.TheConstants.{LINK_TYPE_RAW, WORKLOAD_P
 use Rattle.pcap_io.specs.Capture.{IsPacket, IsTrace}
 use Rattle.pcap_io.specs.Writing.{header_text, record_header_text, record_text, pcap_text}
 use Rattle.workload.specs.declared.shape.TheConstants.{HOSTS}
-use Rattle.workload.specs.Stream.{state_at, draw_at}
-use Rattle.workload.specs.Trace.{length_at, gap_at, ip_header, packet_between, packet_at, time_of, packet_of, packets_of}
+use Rattle.mn_base.specs.Draws.{state_at, draw_at}
+use Rattle.workload.specs.Trace.{length_at, gap_at, ip_header, packet_between, drawn_packet, time_of, packet_of, packets_of}
 use Rattle.workload.proofs.Lines.{range-more}
 
 -- ---- one packet
 
-pub the_packet : (x time source destination more : ℕ) → source ≡ draw_at x 0 HOSTS → destination ≡ draw_at x 1 HOSTS → more ≡ draw_at x 2 1441
-    → packet_between time (60 + more) source destination ≡ packet_at x time
+pub the_packet : (x time source destination more : ℕ) → source ≡ draw_at x 0 HOSTS → destination ≡ draw_at x 1 HOSTS
+    → more ≡ draw_at x 2 1441
+    → packet_between time (60 + more) source destination ≡ drawn_packet x time
 the_packet x time source destination more from to len =
     ap (λ s. packet_between time (60 + more) s destination) from
     ∙ ap (λ d. packet_between time (60 + more) (draw_at x 0 HOSTS) d) to
@@ -25,7 +26,7 @@ the_packet x time source destination more from to len =
 length-ip_header : (len source destination : ℕ) → length (ip_header len source destination) ≡ 20
 length-ip_header len source destination = refl
 
-length-record_text : (x time : ℕ) → length (record_text (packet_at x time)) ≡ 36
+length-record_text : (x time : ℕ) → length (record_text (drawn_packet x time)) ≡ 36
 unfolding record_header_text
 length-record_text x time = refl
 
@@ -40,7 +41,8 @@ unfolding time_of
 time_of-more x p =
     let g : ℕ → ℕ = λ q. gap_at (state_at x (4 * q)) in
     let last : sum_by g (p ∷ []) ≡ g p = omega arith in
-    ap (λ ns. sum_by g ns) (range-more p) ∙ sum_by-append g (range_with_len 0 p) (p ∷ []) ∙ ap (λ n. sum_by g (range_with_len 0 p) + n) last
+    ap (λ ns. sum_by g ns) (range-more p) ∙ sum_by-append g (range_with_len 0 p) (p ∷ [])
+    ∙ ap (λ n. sum_by g (range_with_len 0 p) + n) last
 
 pub next_time : (x s p now gap : ℕ) → now ≡ time_of x p → s ≡ state_at x (4 * p) → gap ≡ gap_at s → now + gap ≡ time_of x (p + 1)
 next_time x s p now gap so_far at is =
@@ -54,7 +56,8 @@ time_of-le x zero = let none = time_of-zero x in omega arith
 time_of-le x (suc p) =
     let less = time_of-le x p in
     let gap = gap-lt (state_at x (4 * p)) in
-    let more : time_of x (suc p) ≡ time_of x p + gap_at (state_at x (4 * p)) = (let same : suc p ≡ p + 1 = omega arith in ap (λ n. time_of x n) same ∙ time_of-more x p) in
+    let more : time_of x (suc p) ≡ time_of x p + gap_at (state_at x (4 * p)) = (let same : suc p ≡ p + 1 = omega arith in ap
+    (λ n. time_of x n) same ∙ time_of-more x p) in
     omega arith
 
 -- ---- lists of packets
@@ -72,10 +75,10 @@ unfolding packets_of
 no_packets x = refl
 
 pub next_record : (x s p time : ℕ) (before now now' : List ℕ) → time ≡ time_of x p → s ≡ state_at x (4 * p)
-    → now ≡ before ++ flat_map record_text (packets_of x p) → now' ≡ now ++ record_text (packet_at s time)
+    → now ≡ before ++ flat_map record_text (packets_of x p) → now' ≡ now ++ record_text (drawn_packet s time)
     → now' ≡ before ++ flat_map record_text (packets_of x (p + 1))
 next_record x s p time before now now' when at so_far is =
-    is ∙ ap (λ t. now ++ record_text (packet_at t time)) at ∙ ap (λ t. now ++ record_text (packet_at (state_at x (4 * p)) t)) when
+    is ∙ ap (λ t. now ++ record_text (drawn_packet t time)) at ∙ ap (λ t. now ++ record_text (drawn_packet (state_at x (4 * p)) t)) when
     ∙ ap (λ l. l ++ record_text (packet_of x p)) so_far
     ∙ flat_map_more record_text before (packets_of x p) (packet_of x p)
     ∙ ap (λ ps. before ++ flat_map record_text ps) (sym (packets_of-more x p))
@@ -92,7 +95,11 @@ is_packet x p few =
     record {
       time = omega arith;
       original = omega arith;
-      captured = omega (arith, length-ip_header (length_at (state_at x (4 * p))) (draw_at (state_at x (4 * p)) 0 HOSTS) (draw_at (state_at x (4 * p)) 1 HOSTS));
+      captured = omega (
+        arith,
+        length-ip_header (length_at (state_at x (4 * p))) (draw_at (state_at x (4 * p)) 0 HOSTS) (draw_at
+            (state_at x (4 * p)) 1 HOSTS),
+      );
     }
 
 -- what holds of each of the numbers from a on holds of the list made of them
@@ -115,7 +122,8 @@ is_trace x n few = record {
 early_packet : (x p : ℕ) → p ≤ WORKLOAD_PACKETS_MAX → time_of x p / 10 ^ 9 ≤ RECORD_SECONDS_MAX
 early_packet x p few = let early = time_of-le x p in omega arith
 
-pub have_early_seconds : (x n : ℕ) → n ≤ WORKLOAD_PACKETS_MAX → All (λ packet. packet.time_ns / 10 ^ 9 ≤ RECORD_SECONDS_MAX) (packets_of x n)
+pub have_early_seconds : (x n : ℕ) → n ≤ WORKLOAD_PACKETS_MAX
+    → All (λ packet. packet.time_ns / 10 ^ 9 ≤ RECORD_SECONDS_MAX) (packets_of x n)
 unfolding packets_of
 have_early_seconds x n few =
     All-numbers (λ packet. packet.time_ns / 10 ^ 9 ≤ RECORD_SECONDS_MAX) (packet_of x) 0 n (λ i low. early_packet x i (omega arith))

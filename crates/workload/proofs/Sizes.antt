@@ -4,8 +4,8 @@ use Rattle.std.specs.List.{flat_map, range_with_len}
 use Rattle.std.specs.Fmt.{decimal}
 use Rattle.std.proofs.lemmas.Fmt.{length-decimal-le}
 use Rattle.mn_base.specs.declared.limits.TheConstants.{TOPOLOGY_BYTES_MAX}
-use Rattle.workload.specs.declared.shape.TheConstants.{ROUTERS, HOSTS, CHORDS, RING_DRAWS, CHORD_DRAWS}
-use Rattle.workload.specs.Stream.{state_at, draw_at}
+use Rattle.workload.specs.declared.shape.TheConstants.{ROUTERS, HOSTS, CHORDS, BANDWIDTH_STEP, RING_DRAWS, CHORD_DRAWS}
+use Rattle.mn_base.specs.Draws.{state_at, draw_at}
 use Rattle.workload.specs.Gml.{router_line, host_line, trunk_line, access_line, router_lines, host_lines, ring_lines, chord_lines, access_lines, workload_gml}
 
 short : (n : ℕ) → n < 2 ^ 32 → length (decimal n) ≤ 10
@@ -34,7 +34,7 @@ length-trunk_line : (x source target : ℕ) → source < 100 → target < 100 �
 length-trunk_line x source target from to =
     let s = short source (omega arith) in
     let t = short target (omega arith) in
-    let b = short (10000000 * (1 + draw_at x 0 10)) (omega arith) in
+    let b = short (BANDWIDTH_STEP * (1 + draw_at x 0 10)) (omega arith) in
     let l = short (1000 + draw_at x 1 20000) (omega arith) in
     let p = short (draw_at x 2 1000) (omega arith) in
     simp length-append (omega arith)
@@ -43,6 +43,7 @@ length-access_line : (x j : ℕ) → j < 100 → length (access_line x j) ≤ 20
 length-access_line x j low =
     let s = short (ROUTERS + j) (omega arith) in
     let t = short (j % ROUTERS) (omega arith) in
+    let b = short BANDWIDTH_STEP (omega arith) in
     let l = short (500 + draw_at x 0 1000) (omega arith) in
     simp length-append (omega arith)
 

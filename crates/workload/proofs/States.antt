@@ -1,7 +1,6 @@
 -- States of a stream, and draws, one after the other.
 use Rattle.std.proofs.Common.{◌≡◌, ℕ, zero, suc, ◌+◌, ap, sym, ◌∙◌, refl, arith, add-zero}
-use Rattle.mn_base.specs.Draws.{state_after, choice_at}
-use Rattle.workload.specs.Stream.{state_at, draw_at}
+use Rattle.mn_base.specs.Draws.{state_after, choice_at, state_at, draw_at}
 
 pub no_draw : (x : ℕ) → x ≡ state_at x 0
 unfolding state_at

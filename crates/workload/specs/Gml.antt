@@ -3,8 +3,8 @@
 use Rattle.std.specs.Prelude.{ℕ, ◌+◌, ◌*◌, ◌%◌, List, ◌++◌, codes}
 use Rattle.std.specs.List.{flat_map, range_with_len}
 use Rattle.std.specs.Fmt.{decimal}
-use Rattle.workload.specs.Stream.{state_at, draw_at}
-use Rattle.workload.specs.declared.shape.TheConstants.{ROUTERS, HOSTS, CHORDS, RING_DRAWS, CHORD_DRAWS}
+use Rattle.mn_base.specs.Draws.{state_at, draw_at}
+use Rattle.workload.specs.declared.shape.TheConstants.{ROUTERS, HOSTS, CHORDS, BANDWIDTH_STEP, RING_DRAWS, CHORD_DRAWS}
 
 -- router i
 abbrev pub router_line : ℕ → List ℕ
@@ -18,7 +18,7 @@ host_line j = codes "  node [ id " ++ decimal (ROUTERS + j) ++ codes " address \
 abbrev pub trunk_line : ℕ → ℕ → ℕ → List ℕ
 trunk_line x source target =
     codes "  edge [ source " ++ decimal source ++ codes " target " ++ decimal target
-    ++ codes " bandwidth " ++ decimal (10000000 * (1 + draw_at x 0 10))
+    ++ codes " bandwidth " ++ decimal (BANDWIDTH_STEP * (1 + draw_at x 0 10))
     ++ codes " latency " ++ decimal (1000 + draw_at x 1 20000)
     ++ codes " loss " ++ decimal (draw_at x 2 1000) ++ codes " ]\n"
 
@@ -26,7 +26,7 @@ trunk_line x source target =
 abbrev pub access_line : ℕ → ℕ → List ℕ
 access_line x j =
     codes "  edge [ source " ++ decimal (ROUTERS + j) ++ codes " target " ++ decimal (j % ROUTERS)
-    ++ codes " bandwidth 10000000 latency " ++ decimal (500 + draw_at x 0 1000) ++ codes " ]\n"
+    ++ codes " bandwidth " ++ decimal BANDWIDTH_STEP ++ codes " latency " ++ decimal (500 + draw_at x 0 1000) ++ codes " ]\n"
 
 -- the lines of the routers below n, and of the hosts below n
 unfoldable pub router_lines : ℕ → List ℕ

@@ -1,3 +1,2 @@
 pub mod Gml
-pub mod Stream
 pub mod Trace

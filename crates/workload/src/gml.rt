@@ -1,9 +1,9 @@
 ghost use Rattle.std.specs.Prelude.{◌≡◌, ◌*◌, ◌≤◌, ◌<◌, ◌++◌, IfOk, OnOk, string_bytes};
-ghost use Rattle.workload.specs.Stream.{state_at};
+ghost use Rattle.mn_base.specs.Draws.{state_at};
 ghost use Rattle.workload.specs.declared.shape.TheConstants.{ROUTERS, HOSTS, CHORDS, GML_DRAWS};
 ghost use Rattle.workload.specs.Gml.{router_line, host_line, trunk_line, access_line, router_lines, host_lines, ring_lines, chord_lines, access_lines, workload_gml};
 
-use crate::shape::{CHORDS, HOSTS, ROUTERS};
+use crate::shape::{BANDWIDTH_STEP, CHORDS, HOSTS, ROUTERS};
 use mn_base::{Draws, NoMemory};
 use std::alloc::Global;
 
@@ -102,7 +102,7 @@ fn write_trunk(
     ensures text { OnOk result (string_bytes text.new ≡ string_bytes text.old ++ trunk_line draws.old source target) }
     ensures state { OnOk result (draws.new ≡ state_at draws.old 3) }
 {
-    let bandwidth = 10_000_000 * (1 + draws.draw(10));
+    let bandwidth = BANDWIDTH_STEP * (1 + draws.draw(10));
     let latency = 1_000 + draws.draw(20_000);
     let loss = draws.draw(1_000);
     write!(text, "  edge [ source {source} target {target}")?;
@@ -121,8 +121,9 @@ fn write_host_edge(text: &mut String, draws: &mut Draws, host: u32) -> Result<()
 {
     let source = ROUTERS + host;
     let target = host % ROUTERS;
+    let bandwidth = BANDWIDTH_STEP;
     let latency = 500 + draws.draw(1_000);
     write!(text, "  edge [ source {source} target {target}")?;
-    writeln!(text, " bandwidth 10000000 latency {latency} ]")?;
+    writeln!(text, " bandwidth {bandwidth} latency {latency} ]")?;
     Ok(())
 }

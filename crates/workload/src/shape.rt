@@ -9,6 +9,9 @@ pub const HOSTS: u32 = 64;
 /// Edges from a router to the one across the ring, which is as many routers away.
 pub const CHORDS: u32 = 8;
 
+/// Bandwidths are multiples of this, in bit/s: 10 Mbit/s. That of a host is one of it.
+pub const BANDWIDTH_STEP: u32 = 10 * 1_000 * 1_000;
+
 /// Draws of the edges of the ring: three for each.
 pub const RING_DRAWS: u32 = 48;
 

@@ -1,9 +1,9 @@
 ghost use Rattle.std.specs.Prelude.{◌≡◌, ◌*◌, ◌+◌, ◌≤◌, ◌<◌, ◌^◌, ◌++◌, length, IfOk, OnOk};
 ghost use Rattle.mn_base.specs.declared.limits.TheConstants.{LINK_TYPE_RAW, WORKLOAD_PACKETS_MAX, RECORD_NS_END};
-ghost use Rattle.workload.specs.Stream.{state_at};
+ghost use Rattle.mn_base.specs.Draws.{state_at};
 ghost use Rattle.pcap_io.specs.Writing.{header_text, record_text, pcap_text};
 ghost use Rattle.workload.specs.declared.shape.TheConstants.{HOSTS};
-ghost use Rattle.workload.specs.Trace.{gap_at, packet_between, packet_at, packets_of};
+ghost use Rattle.workload.specs.Trace.{gap_at, packet_between, drawn_packet, packets_of};
 
 use crate::shape::HOSTS;
 use mn_base::{Draws, NoMemory};
@@ -20,7 +20,8 @@ const RECORD_BYTES: usize = 36;
 /// The text of a trace of so many packets, which are drawn from the stream's state on.
 pub fn trace_text(alloc: Global, draws: &mut Draws, packets: u32) -> Result<Vec<u8>, NoMemory>
     requires { packets ≤ WORKLOAD_PACKETS_MAX }
-    ensures text { IfOk result (λ text. text.items ≡ pcap_text (record { link_type = LINK_TYPE_RAW; packets = packets_of draws.old packets })) }
+    ensures text { IfOk result (λ text. text.items ≡
+        pcap_text (record { link_type = LINK_TYPE_RAW; packets = packets_of draws.old packets })) }
 {
     let mut text = Vec::with_capacity(alloc, HEADER.len() + RECORD_BYTES * packets as usize)?;
     text.extend_from_slice(&HEADER)?;
@@ -37,7 +38,7 @@ fn append_record(text: &mut Vec<u8>, draws: &mut Draws, time_ns: u64) -> Result<
     requires { time_ns ≤ 200000 * WORKLOAD_PACKETS_MAX }
     ensures gap { IfOk result (λ gap. gap ≡ gap_at draws.old) }
     ensures bound { IfOk result (λ gap. gap < 200000) }
-    ensures text { OnOk result (text.new.items ≡ text.old.items ++ record_text (packet_at draws.old time_ns)) }
+    ensures text { OnOk result (text.new.items ≡ text.old.items ++ record_text (drawn_packet draws.old time_ns)) }
     ensures state { OnOk result (draws.new ≡ state_at draws.old 4) }
 {
     let source = draws.draw(HOSTS);

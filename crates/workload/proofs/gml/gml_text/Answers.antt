@@ -1,6 +1,6 @@
 use Rattle.std.proofs.Common.{◌≡◌, ◌+◌, refl, append_assoc}
 use Rattle.workload.specs.declared.shape.TheConstants.{RING_DRAWS, CHORD_DRAWS, GML_DRAWS, HOSTS}
-use Rattle.workload.specs.Stream.{state_at}
+use Rattle.mn_base.specs.Draws.{state_at}
 use Rattle.workload.specs.Gml.{workload_gml}
 use Rattle.workload.proofs.States.{later_state}
 use Rattle.workload.proofs.gml.gml_text.Goals as goal

@@ -11,5 +11,6 @@ pub loop-host-preserved : goal.loop-host-preserved
 loop-host-preserved c = record {
   text = next_access c.args.draws.now c.loop-host.draws c.loop-host.host (string_bytes c.args.text.now) (string_bytes c.loop-host.text) _
       c.loop-host.invariant.state c.loop-host.invariant.text c.in_ok-write_host_edge.ensures.text;
-  state = later_state c.args.draws.now c.loop-host.draws _ (c.loop-host.host) 1 _ c.loop-host.invariant.state c.in_ok-write_host_edge.ensures.state (omega arith);
+  state = later_state c.args.draws.now c.loop-host.draws _
+      (c.loop-host.host) 1 _ c.loop-host.invariant.state c.in_ok-write_host_edge.ensures.state (omega arith);
 }

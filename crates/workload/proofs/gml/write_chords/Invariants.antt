@@ -1,6 +1,6 @@
 use Rattle.std.proofs.Common.{◌≡◌, ◌*◌, ◌++◌}
 use Rattle.std.specs.Prelude.{string_bytes}
-use Rattle.workload.specs.Stream.{state_at}
+use Rattle.mn_base.specs.Draws.{state_at}
 use Rattle.workload.specs.Gml.{chord_lines}
 use Rattle.workload.proofs.gml.write_chords.Given as goal
 

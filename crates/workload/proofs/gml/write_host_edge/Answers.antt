@@ -1,5 +1,5 @@
 use Rattle.std.proofs.Common.{◌≡◌, append_assoc}
-use Rattle.workload.specs.Stream.{state_at, draw_at}
+use Rattle.mn_base.specs.Draws.{state_at, draw_at}
 use Rattle.workload.proofs.States.{one_draw, the_draw}
 use Rattle.workload.proofs.gml.write_host_edge.Goals as goal
 

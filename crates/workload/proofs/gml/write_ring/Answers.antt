@@ -9,7 +9,9 @@ loop-router-init c = record { text = no_ring c.args.draws.now (string_bytes c.ar
 
 pub loop-router-preserved : goal.loop-router-preserved
 loop-router-preserved c = record {
-  text = next_of_ring c.args.draws.now c.loop-router.draws c.loop-router.router (string_bytes c.args.text.now) (string_bytes c.loop-router.text) _
+  text = next_of_ring c.args.draws.now c.loop-router.draws c.loop-router.router (string_bytes c.args.text.now)
+      (string_bytes c.loop-router.text) _
       c.loop-router.invariant.state c.loop-router.invariant.text c.in_ok-write_trunk.ensures.text;
-  state = later_state c.args.draws.now c.loop-router.draws _ (3 * c.loop-router.router) 3 _ c.loop-router.invariant.state c.in_ok-write_trunk.ensures.state (omega arith);
+  state = later_state c.args.draws.now c.loop-router.draws _
+      (3 * c.loop-router.router) 3 _ c.loop-router.invariant.state c.in_ok-write_trunk.ensures.state (omega arith);
 }

@@ -4,7 +4,7 @@ use Rattle.pcap_io.specs.Reading.{Pcap}
 use Rattle.pcap_io.specs.Writing.{pcap_text}
 use Rattle.pcap_io.proofs.ReadsBack.{reads_back}
 use Rattle.workload.specs.declared.shape.TheConstants.{GML_DRAWS}
-use Rattle.workload.specs.Stream.{state_at}
+use Rattle.mn_base.specs.Draws.{state_at}
 use Rattle.workload.specs.Gml.{workload_gml}
 use Rattle.workload.specs.Trace.{packets_of, workload_trace}
 use Rattle.workload.proofs.Packets.{is_trace, have_early_seconds, length-trace}

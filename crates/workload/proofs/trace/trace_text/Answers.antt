@@ -21,7 +21,9 @@ pub loop-preserved : goal.loop-preserved
 loop-preserved c = record {
   text = next_record c.args.draws.now c.loop.draws c.loop.counter c.loop.time_ns (header_text LINK_TYPE_RAW) c.loop.text.items _
       c.loop.invariant.time c.loop.invariant.state c.loop.invariant.text c.in_ok-gap.ensures.text;
-  time = next_time c.args.draws.now c.loop.draws c.loop.counter c.loop.time_ns _ c.loop.invariant.time c.loop.invariant.state c.in_ok-gap.ensures.gap;
-  state = later_state c.args.draws.now c.loop.draws _ (4 * c.loop.counter) 4 _ c.loop.invariant.state c.in_ok-gap.ensures.state (omega arith);
+  time = next_time c.args.draws.now c.loop.draws c.loop.counter c.loop.time_ns _ c.loop.invariant.time c.loop.invariant.state
+      c.in_ok-gap.ensures.gap;
+  state = later_state c.args.draws.now c.loop.draws _ (4 * c.loop.counter) 4 _ c.loop.invariant.state c.in_ok-gap.ensures.state
+      (omega arith);
   early = let early = c.loop.invariant.early in let bound = c.in_ok-gap.ensures.bound in omega arith;
 }

@@ -2,7 +2,7 @@ use Rattle.std.proofs.Common.{◌≡◌, ◌*◌, ◌≤◌, ◌++◌}
 use Rattle.std.specs.List.{flat_map}
 use Rattle.mn_base.specs.declared.limits.TheConstants.{LINK_TYPE_RAW}
 use Rattle.pcap_io.specs.Writing.{header_text, record_text}
-use Rattle.workload.specs.Stream.{state_at}
+use Rattle.mn_base.specs.Draws.{state_at}
 use Rattle.workload.specs.Trace.{time_of, packets_of}
 use Rattle.workload.proofs.trace.trace_text.Given as goal
 
