@@ -1,0 +1,4 @@
+pub mod ColonParts
+pub mod Finding
+pub mod PipeLists
+pub mod Taking

@@ -1,0 +1,7 @@
+pub mod Form
+pub mod Items
+pub mod Order
+pub mod Steps
+pub mod TheCommands
+pub mod Values
+pub mod Words

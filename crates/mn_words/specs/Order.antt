@@ -1,0 +1,40 @@
+-- What a command line asks for.
+use Rattle.std.specs.Prelude.{ℕ, ◌≤◌, List, length, All}
+use Rattle.mn_base.specs.declared.limits.TheConstants.{CHAIN_PIPES_MAX}
+use Rattle.mn_base.specs.Ranges.{AreInRange, IsTickLength}
+use Rattle.distill.specs.declared.modes.Mode.{Mode}
+use Rattle.distill.specs.Modes.{IsMode}
+use Rattle.journal.specs.declared.setup.LossBy.{LossBy}
+use Rattle.mn_words.specs.declared.order.PipeSpec.{PipeSpec}
+
+-- what contracts see of a `ChainOrder`
+pub record ChainView : Type 0 where
+  pub trace : List ℕ
+  pub out : List ℕ
+  pub report : List ℕ
+  pub tick_ns : ℕ
+  pub seed : ℕ
+  pub pipes : List PipeSpec
+  pub loss : LossBy
+
+-- what contracts see of a `DistillOrder`
+pub record DistillView : Type 0 where
+  pub topology : List ℕ
+  pub mode : Mode
+  pub tick_ns : ℕ
+
+-- a pipe within the limits of a link
+abbrev pub IsPipeSpec : PipeSpec → Type 0
+IsPipeSpec pipe = AreInRange pipe.bps pipe.latency_us pipe.queue pipe.ppm
+
+-- an order within the limits of `chain`
+pub record IsChainOrder (order : ChainView) : Type 0 where
+  pub tick : IsTickLength order.tick_ns
+  pub pipes_least : 1 ≤ length order.pipes
+  pub pipes_most : length order.pipes ≤ CHAIN_PIPES_MAX
+  pub pipes : All IsPipeSpec order.pipes
+
+-- an order within the limits of `distill`
+pub record IsDistillOrder (order : DistillView) : Type 0 where
+  pub mode : IsMode order.mode
+  pub tick : IsTickLength order.tick_ns

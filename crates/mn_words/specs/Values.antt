@@ -1,0 +1,89 @@
+-- What the text of a value says, where it is one that its option allows. A text is the list of its bytes; the colon is 58.
+use Rattle.std.specs.Prelude.{ℕ, ◌==◌, ◌&&◌, nat_le, List, [], ◌∷◌, Option, Some, None, length, bytes_eq, codes, if◌then◌else◌}
+use Rattle.std.specs.List.{slice_split}
+use Rattle.mn_base.specs.declared.limits.TheConstants.{BPS_MIN, BPS_MAX, LINK_LATENCY_US_MAX, QUEUE_MIN, QUEUE_MAX, LOSS_PPM_MAX, CHAIN_PIPES_MAX, FRONTIERS_MAX, TICK_NS_MIN, TICK_NS_MAX}
+use Rattle.mn_base.specs.Decimal.{decimal_of}
+use Rattle.distill.specs.declared.modes.Mode.{Mode}
+use Rattle.distill.specs.declared.modes.Mode.TheVariants.{Hop, Walk, End, WalkOut}
+use Rattle.journal.specs.declared.setup.LossBy.{LossBy}
+use Rattle.journal.specs.declared.setup.LossBy.TheVariants.{Packet, Arrival}
+use Rattle.mn_words.specs.declared.order.PipeSpec.{PipeSpec}
+use Rattle.mn_words.specs.Steps.{◌>>=◌}
+
+-- the number that a plain decimal text writes, where it is from `least` to `most`
+unfoldable pub number_within : ℕ → ℕ → List ℕ → Option ℕ
+number_within least most text = do
+  number ← decimal_of text
+  if nat_le least number && nat_le number most then Some number else None
+
+-- the parts of a text between its colons
+unfoldable pub colon_parts : List ℕ → List (List ℕ)
+colon_parts text = slice_split (λ b. b == 58) text
+
+-- the value of an option: what its text says, and a default where the option is left out
+abbrev pub read_or : {A : Type 0} → A → (List ℕ → Option A) → Option (List ℕ) → Option A
+read_or default read None = Some default
+read_or default read (Some text) = read text
+
+-- a tick length, in ns
+abbrev pub tick_of : List ℕ → Option ℕ
+tick_of text = number_within TICK_NS_MIN TICK_NS_MAX text
+
+-- how loss words are numbered
+unfoldable pub loss_of : List ℕ → Option LossBy
+loss_of text =
+    if bytes_eq text (codes "packet") then Some Packet else
+    if bytes_eq text (codes "arrival") then Some Arrival else
+    None
+
+-- how many frontiers a text names
+abbrev pub frontier_count : List ℕ → Option ℕ
+frontier_count text = number_within 1 FRONTIERS_MAX text
+
+-- one number of frontiers, for walk-in, or two, of which the second is for walk-out
+unfoldable pub walk_numbers : List (List ℕ) → Option Mode
+walk_numbers (first ∷ []) = do
+  walk_in ← frontier_count first
+  Some (Walk walk_in)
+walk_numbers (first ∷ second ∷ []) = do
+  walk_in ← frontier_count first
+  walk_out ← frontier_count second
+  Some (WalkOut walk_in walk_out)
+walk_numbers parts = None
+
+-- `walk` stands before the numbers
+unfoldable pub walk_of : List (List ℕ) → Option Mode
+walk_of [] = None
+walk_of (first ∷ parts) = if bytes_eq first (codes "walk") then walk_numbers parts else None
+
+-- how much is kept of a topology
+unfoldable pub mode_of : List ℕ → Option Mode
+mode_of text =
+    if bytes_eq text (codes "hop") then Some Hop else
+    if bytes_eq text (codes "end") then Some End else
+    walk_of (colon_parts text)
+
+-- the pipe of four parts: bandwidth in bit/s, latency in us, queue limit in packets, loss in ppm
+unfoldable pub pipe_of_parts : List (List ℕ) → Option PipeSpec
+pipe_of_parts (first ∷ second ∷ third ∷ fourth ∷ []) = do
+  bps ← number_within BPS_MIN BPS_MAX first
+  latency_us ← number_within 0 LINK_LATENCY_US_MAX second
+  queue ← number_within QUEUE_MIN QUEUE_MAX third
+  ppm ← number_within 0 LOSS_PPM_MAX fourth
+  Some (record { bps = bps; latency_us = latency_us; queue = queue; ppm = ppm })
+pipe_of_parts parts = None
+
+unfoldable pub pipe_spec_of : List ℕ → Option PipeSpec
+pipe_spec_of word = pipe_of_parts (colon_parts word)
+
+-- the pipes of these words, in order
+unfoldable pub pipes_of : List (List ℕ) → Option (List PipeSpec)
+pipes_of [] = Some []
+pipes_of (word ∷ words) = do
+  pipe ← pipe_spec_of word
+  pipes ← pipes_of words
+  Some (pipe ∷ pipes)
+
+-- the pipes of a chain, of which there are at most `CHAIN_PIPES_MAX`
+unfoldable pub chain_pipes : List (List ℕ) → Option (List PipeSpec)
+chain_pipes words = if nat_le (length words) CHAIN_PIPES_MAX then pipes_of words else None

@@ -1,0 +1,28 @@
+-- What a command line asks for, or its first fault. A word is the list of its bytes.
+use denote.Ref.{Bor}
+use Rattle.std.specs.Prelude.{ℕ, map, List, [], ◌∷◌, Result, Err, ok_or, if◌then◌else◌}
+use Rattle.mn_words.specs.declared.order.Order.{Order}
+use Rattle.mn_words.specs.declared.order.Order.TheVariants.{Chain, Distill}
+use Rattle.mn_words.specs.declared.opt.WordsFault.{WordsFault}
+use Rattle.mn_words.specs.declared.opt.WordsFault.TheVariants.{Command, Form}
+use Rattle.mn_words.specs.Form.{has_form}
+use Rattle.mn_words.specs.Items.{items_of}
+use Rattle.mn_words.specs.Order.{IsChainOrder, IsDistillOrder}
+use Rattle.mn_words.specs.TheCommands.{◌>>=◌, command_of, form_of, order_of}
+
+-- what a command line asks for, or its first fault: the first word names the command, the words after it are of its form, and the
+-- values are in their ranges
+unfoldable pub ordered : List (List ℕ) → Result Order WordsFault
+ordered [] = Err Command
+ordered (first ∷ words) = do
+  command ← ok_or (command_of first) Command
+  if has_form (form_of command) words then order_of command (items_of words) else Err Form
+
+-- the numbers of an order are in their ranges
+abbrev pub IsInRange : Order → Type 0
+IsInRange (Chain order) = IsChainOrder order
+IsInRange (Distill order) = IsDistillOrder order
+
+-- the bytes of the words
+abbrev pub texts : List (Bor (List ℕ)) → List (List ℕ)
+texts words = map (λ word. word.now) words

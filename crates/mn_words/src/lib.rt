@@ -1,0 +1,21 @@
+//! The words of a command line: what they ask for, or their first fault.
+//!
+//! It stands on mn_base (limits, numbers, refusals), distill (for `Mode`) and journal (for `LossBy`). Its contract speaks of
+//! `ordered` (specs/Words.antt), which cites the table of the commands (specs/Form.antt) and the items of a list of words
+//! (specs/Items.antt).
+#![tactic(auto)]
+
+mod form;
+mod opt;
+mod order;
+mod pipes;
+mod rest;
+mod values;
+mod words;
+
+pub use opt::{Opt, WordsFault};
+pub use order::{ChainOrder, DistillOrder, FileName, Order, PipeSpec};
+pub use words::read_words;
+
+#[cfg(test)]
+mod tests;

@@ -1,0 +1,26 @@
+/// An option of a command, or its PIPE words.
+#[derive(Clone, Copy, Debug, PartialEq, Eq)]
+pub enum Opt {
+    Mode,
+    Cores,
+    Seed,
+    TickNs,
+    ClusterReport,
+    Order,
+    Turns,
+    Number,
+    Packets,
+    Pipe,
+    Loss,
+}
+
+/// What is wrong with the words of a command line.
+#[derive(Clone, Copy, Debug, PartialEq, Eq)]
+pub enum WordsFault {
+    /// There is no word, or the first is no command.
+    Command,
+    /// The words aren't of the command's form.
+    Form,
+    /// They are, and the value of this option, the first in the order of `Opt`, is outside its range.
+    Value(Opt),
+}

@@ -1,0 +1,117 @@
+ghost use Rattle.std.specs.Prelude.{◌≡◌, List, ℕ, IfOk};
+ghost use Rattle.std.specs.String.{string_bytes};
+
+use distill::Mode;
+use journal::LossBy;
+use mn_base::NoMemory;
+use std::alloc::Global;
+use std::marker::Model;
+
+/// The name of a file, which contracts see as its bytes.
+#[derive(Drop)]
+pub struct FileName {
+    text: String,
+}
+
+impl Model for FileName {
+    ghost Value = { List ℕ };
+
+    ghost view = { λ n. string_bytes n.text };
+}
+
+impl FileName {
+    /// The same text, owned.
+    pub fn copy(alloc: Global, from: &str) -> Result<FileName, NoMemory>
+        ensures copied { IfOk result (λ name. name ≡ from.now) }
+    {
+        let text = String::from_str(alloc, from)?;
+        Ok(FileName { text })
+    }
+
+    /// Lends the text.
+    pub fn as_str(&self) -> &str
+        ensures lent { result.now ≡ self.now }
+    {
+        self.text.as_str()
+    }
+}
+
+/// One pipe of a chain, as its word `BPS:LATENCY_US:QUEUE:PPM` gives it.
+#[derive(Clone, Copy, Debug, PartialEq, Eq)]
+pub struct PipeSpec {
+    /// Bandwidth, in bit/s, from 1,000 to 10^12.
+    pub bps: u64,
+    /// Latency, in microseconds, at most 10,000,000.
+    pub latency_us: u32,
+    /// Queue limit, in packets, from 1 to 1,000.
+    pub queue: u32,
+    /// Loss, in ppm (parts in a million), at most 1,000,000.
+    pub ppm: u32,
+}
+
+/// What `chain` is asked for.
+#[derive(Drop)]
+pub struct ChainOrder {
+    /// The trace that is read.
+    pub trace: FileName,
+    /// The trace that is written.
+    pub out: FileName,
+    /// The report that is written.
+    pub report: FileName,
+    /// The tick length, in ns.
+    pub tick_ns: u64,
+    /// The seed of the loss words.
+    pub seed: u64,
+    /// The pipes, in the order in which a packet visits them.
+    pub pipes: Vec<PipeSpec>,
+    /// How loss words are numbered.
+    pub loss: LossBy,
+}
+
+impl Model for ChainOrder {
+    ghost use Rattle.mn_words.specs.Order.{ChainView};
+
+    ghost Value = { ChainView };
+
+    ghost view = { λ o. record {
+      trace = o.trace;
+      out = o.out;
+      report = o.report;
+      tick_ns = o.tick_ns;
+      seed = o.seed;
+      pipes = o.pipes.items;
+      loss = o.loss;
+    } };
+}
+
+/// What `distill` is asked for.
+#[derive(Drop)]
+pub struct DistillOrder {
+    /// The topology that is read.
+    pub topology: FileName,
+    /// How much of it is kept.
+    pub mode: Mode,
+    /// The tick length, in ns.
+    pub tick_ns: u64,
+}
+
+impl Model for DistillOrder {
+    ghost use Rattle.mn_words.specs.Order.{DistillView};
+
+    ghost Value = { DistillView };
+
+    ghost view = { λ o. record {
+      topology = o.topology;
+      mode = o.mode;
+      tick_ns = o.tick_ns;
+    } };
+}
+
+/// What a command line asks for.
+#[derive(Drop)]
+pub enum Order {
+    /// Replays a trace through a chain of pipes.
+    Chain(ChainOrder),
+    /// Prints the pipes of a distilled topology.
+    Distill(DistillOrder),
+}

@@ -1,0 +1,303 @@
+//! Lines of words, with what comes of each by the rules.
+use crate::opt::{Opt, WordsFault};
+use crate::order::{ChainOrder, DistillOrder, Order, PipeSpec};
+use crate::words::read_words;
+use distill::Mode;
+use journal::LossBy;
+use mn_base::Refusal;
+use std::alloc::{AllocError, Global};
+use std::process::Abort;
+use std::test::Fail;
+
+/// The fault of the words that stand between the spaces of a line.
+fn fault_of(alloc: Global, line: &str) -> Result<Option<Refusal<WordsFault>>, AllocError> {
+    let words: Vec<&str> = line.split(' ').collect(alloc)?;
+    Ok(read_words(alloc, words.as_slice()).err())
+}
+
+/// Each line has this fault.
+fn assert_faults(rt: &(impl Abort + AllocGlobal), lines: &str, fault: WordsFault) {
+    for line in lines.lines() {
+        let found = fault_of(rt.alloc(), line).expect(rt, "memory");
+        assert_eq!(rt; found, Some(Refusal::Fault(fault)), "at {line}");
+    }
+}
+
+fn chain_order(rt: &(impl Abort + AllocGlobal), line: &str) -> ChainOrder {
+    let words: Result<Vec<&str>, _> = line.split(' ').collect(rt.alloc());
+    let words = words.expect(rt, "memory");
+    match read_words(rt.alloc(), words.as_slice()) {
+        Ok(Order::Chain(order)) => order,
+        _ => panic!(rt; "no order of a chain: {line}"),
+    }
+}
+
+fn distill_order(rt: &(impl Abort + AllocGlobal), line: &str) -> DistillOrder {
+    let words: Result<Vec<&str>, _> = line.split(' ').collect(rt.alloc());
+    let words = words.expect(rt, "memory");
+    match read_words(rt.alloc(), words.as_slice()) {
+        Ok(Order::Distill(order)) => order,
+        _ => panic!(rt; "no order to distill: {line}"),
+    }
+}
+
+#[test]
+fn no_words_and_words_that_are_no_command(rt: HostRuntime) -> Result<(), Fail> {
+    let none = read_words(rt.alloc(), &[]).err();
+    assert_eq!(rt; none, Some(Refusal::Fault(WordsFault::Command)));
+    let lines = "\
+emulate
+rehearse --topology t
+--trace t
+--help
+distil --topology t
+chain=x
+chaîn --trace t --out o --report r 8000000:5000:50:0
+Chain --trace t --out o --report r 8000000:5000:50:0";
+    assert_faults(&rt, lines, WordsFault::Command);
+    assert_faults(&rt, " chain", WordsFault::Command);
+    Ok(())
+}
+
+#[test]
+fn words_of_another_form(rt: HostRuntime) -> Result<(), Fail> {
+    let lines = "\
+chain
+chain --help
+chain 1000:0:1:0
+chain --trace t --out
+chain --trace t --out o --report r
+chain --out o --report r 1000:0:1:0
+chain --trace t --report r 1000:0:1:0
+chain --trace t --out o 1000:0:1:0
+chain --trace t --out o --report r --tick-ns 1000:0:1:0
+chain --trace t --out o --report r 1000:0:1:0 --seed
+chain --trace t --out o --report r 1000:0:1:0 --loss
+chain --trace t --out o --report r 1000:0:1:0 --
+chain --trace t --out o --report r 1000:0:1:0 -- x
+chain --trace t --out o --report r 1000:0:1:0 --=x
+chain --trace t --out o --report r 1000:0:1:0 --cores=17
+chain --trace t --out o --report r 1000:0:1:0 --mode hop
+chain --trace t --out o --report r 1000:0:1:0 --Seed 1
+chain --träce t --out o --report r 1000:0:1:0
+distill
+distill --mode hop
+distill --topology
+distill --topology t 1000:0:1:0
+distill x --topology t
+distill --topology t --seed 1
+distill --topology t --loss packet
+distill --topology=t --mode
+distill --topology=t --tick-ns";
+    assert_faults(&rt, lines, WordsFault::Form);
+    Ok(())
+}
+
+#[test]
+fn every_front_of_a_line(rt: HostRuntime) -> Result<(), Fail> {
+    let line =
+        "chain 1000:0:1:0 --trace t --out=o --report r --tick-ns 1000 --seed=1 1000:0:1:0 --loss packet";
+    let words: Result<Vec<&str>, _> = line.split(' ').collect(rt.alloc());
+    let words = words.expect(&rt, "memory");
+    let fronts = "\
+0 command
+1 form
+2 form
+3 form
+4 form
+5 form
+6 form
+7 order
+8 form
+9 order
+10 order
+11 order
+12 form
+13 order";
+    for front in fronts.lines() {
+        let (count, comes) = front.split_once(' ').expect(&rt, "two words");
+        let count = mn_base::read_u64(count.as_bytes()).expect(&rt, "a number") as usize;
+        let words: &[&str] = words.as_slice().get(..count).expect(&rt, "a front");
+        let found = match read_words(rt.alloc(), words) {
+            Ok(_) => "order",
+            Err(Refusal::Fault(WordsFault::Command)) => "command",
+            Err(Refusal::Fault(WordsFault::Form)) => "form",
+            Err(_) => "another fault",
+        };
+        assert_eq!(rt; found, comes, "at {front}");
+    }
+    Ok(())
+}
+
+#[test]
+fn an_option_that_stands_twice(rt: HostRuntime) -> Result<(), Fail> {
+    let lines = "\
+chain --trace t --trace t --out o --report r 1000:0:1:0
+chain --trace t --out o --out=o --report r 1000:0:1:0
+chain --report r --trace t --out o --report r 1000:0:1:0
+chain --trace t --out o --report r --tick-ns 1000 1000:0:1:0 --tick-ns=1000
+chain --trace t --out o --report r --seed 1 --seed 1 1000:0:1:0
+chain --trace t --out o --report r 1000:0:1:0 --loss packet --loss packet
+distill --topology t --topology=t
+distill --mode hop --topology t --mode hop
+distill --tick-ns=1000 --tick-ns=1000 --topology t";
+    assert_faults(&rt, lines, WordsFault::Form);
+    Ok(())
+}
+
+#[test]
+fn a_wrong_form_comes_before_a_wrong_value(rt: HostRuntime) -> Result<(), Fail> {
+    let lines = "\
+chain --trace t --out o --report r --seed x --seed 1 1000:0:1:0
+chain --trace t --out o --report r --loss word 0:0:0:0 --tick-ns
+chain --trace t --out o --report r --seed x
+distill --mode walk:0 --tick-ns 1
+distill --topology t --mode walk:0 x";
+    assert_faults(&rt, lines, WordsFault::Form);
+    Ok(())
+}
+
+#[test]
+fn the_first_wrong_value_of_a_chain(rt: HostRuntime) -> Result<(), Fail> {
+    let seeds = "\
+chain --trace t --out o --report r 1000:0:1:0 --seed 18446744073709551616
+chain --trace t --out o --report r 1000:0:1:0 --seed=
+chain --trace t --out o --report r 1000:0:1:0 --seed --seed
+chain --loss=word 0:0:0 --tick-ns 999 --seed 0x1 --trace t --out o --report r";
+    assert_faults(&rt, seeds, WordsFault::Value(Opt::Seed));
+    let ticks = "\
+chain --trace t --out o --report r --tick-ns 999 1000:0:1:0
+chain --trace t --out o --report r --tick-ns 10000001 1000:0:1:0
+chain --trace t --out o --report r --tick-ns --seed 1 1000:0:1:0
+chain --loss=word 0:0:0 --tick-ns=1000=1 --seed 1 --trace t --out o --report r";
+    assert_faults(&rt, ticks, WordsFault::Value(Opt::TickNs));
+    let pipes = "\
+chain --trace t --out o --report r 999:0:1:0
+chain --trace t --out o --report r 1000000000001:0:1:0
+chain --trace t --out o --report r 1000:10000001:1:0
+chain --trace t --out o --report r 1000:0:0:0
+chain --trace t --out o --report r 1000:0:1001:0
+chain --trace t --out o --report r 1000:0:1:1000001
+chain --trace t --out o --report r 1000:0:1
+chain --trace t --out o --report r 1000:0:1:0:0
+chain --trace t --out o --report r +1000:0:1:0
+chain --trace t --out o --report r ١٠٠٠:0:1:0
+chain --trace t --out o --report r 1000：0：1：0
+chain --trace t --out o --report r -seed 1 1000:0:1:0
+chain --loss=word --trace t --out o 1000:0:1:0 --report r extra
+chain --trace t --out o --report r 1000:0:1:0 1000:0:1:0 1000:0:1:0 1000:0:1:0 1000:0:1:0 1000:0:1:0 \
+        1000:0:1:0 1000:0:1:0 1000:0:1:0 1000:0:1:0 1000:0:1:0 1000:0:1:0 1000:0:1:0 1000:0:1:0 1000:0:1:0 1000:0:1:0 1000:0:1:0";
+    assert_faults(&rt, pipes, WordsFault::Value(Opt::Pipe));
+    let losses = "\
+chain --trace t --out o --report r 1000:0:1:0 --loss word
+chain --trace t --out o --report r 1000:0:1:0 --loss=Packet
+chain --trace t --out o --report r 1000:0:1:0 --loss=";
+    assert_faults(&rt, losses, WordsFault::Value(Opt::Loss));
+    Ok(())
+}
+
+#[test]
+fn the_first_wrong_value_of_distill(rt: HostRuntime) -> Result<(), Fail> {
+    let modes = "\
+distill --topology t --mode Hop
+distill --topology t --mode=
+distill --topology t --mode walk
+distill --topology t --mode walk:
+distill --topology t --mode walk:0
+distill --topology t --mode walk:4097
+distill --topology t --mode walk:1:0
+distill --topology t --mode walk:1:
+distill --topology t --mode walk:1:4097
+distill --topology t --mode walk:0:1
+distill --topology t --mode walk:1:1:1
+distill --topology t --mode end:1
+distill --tick-ns 1 --topology t --mode hop=end";
+    assert_faults(&rt, modes, WordsFault::Value(Opt::Mode));
+    assert_faults(
+        &rt,
+        "distill --tick-ns 999 --topology t",
+        WordsFault::Value(Opt::TickNs),
+    );
+    Ok(())
+}
+
+#[test]
+fn what_a_chain_is_asked_for(rt: HostRuntime) -> Result<(), Fail> {
+    let order = chain_order(
+        &rt,
+        "chain --trace --out --out -- --report --seed=1 8000000:5000:50:0",
+    );
+    assert_eq!(rt; order.trace.as_str(), "--out");
+    assert_eq!(rt; order.out.as_str(), "--");
+    assert_eq!(rt; order.report.as_str(), "--seed=1");
+    assert_eq!(rt; order.tick_ns, 100_000);
+    assert_eq!(rt; order.seed, 0);
+    assert_eq!(rt; order.loss, LossBy::Packet);
+    let pipe = PipeSpec {
+        bps: 8_000_000,
+        latency_us: 5_000,
+        queue: 50,
+        ppm: 0,
+    };
+    assert_eq!(rt; order.pipes.as_slice(), [pipe].as_slice());
+    Ok(())
+}
+
+#[test]
+fn pipes_before_and_between_options(rt: HostRuntime) -> Result<(), Fail> {
+    let line =
+        "chain 1000000000000:10000000:1000:1000000 --loss=arrival --report=a=b 1000:0:1:0 --tick-ns=10000000 \
+        --out= --seed 18446744073709551615 --trace=--ü";
+    let order = chain_order(&rt, line);
+    assert_eq!(rt; order.trace.as_str(), "--ü");
+    assert_eq!(rt; order.out.as_str(), "");
+    assert_eq!(rt; order.report.as_str(), "a=b");
+    assert_eq!(rt; order.tick_ns, 10_000_000);
+    assert_eq!(rt; order.seed, u64::MAX);
+    assert_eq!(rt; order.loss, LossBy::Arrival);
+    let greatest = PipeSpec {
+        bps: 1_000_000_000_000,
+        latency_us: 10_000_000,
+        queue: 1_000,
+        ppm: 1_000_000,
+    };
+    let least = PipeSpec {
+        bps: 1_000,
+        latency_us: 0,
+        queue: 1,
+        ppm: 0,
+    };
+    assert_eq!(rt; order.pipes.as_slice(), [greatest, least].as_slice());
+    Ok(())
+}
+
+#[test]
+fn sixteen_pipes(rt: HostRuntime) -> Result<(), Fail> {
+    let line =
+        "chain --trace t --out o --report r --loss packet --tick-ns 1000 1000:0:1:0 1000:0:1:0 1000:0:1:0 1000:0:1:0 \
+        1000:0:1:0 1000:0:1:0 1000:0:1:0 1000:0:1:0 1000:0:1:0 1000:0:1:0 1000:0:1:0 1000:0:1:0 1000:0:1:0 1000:0:1:0 1000:0:1:0 1000:0:1:0";
+    let order = chain_order(&rt, line);
+    assert_eq!(rt; order.pipes.len(), 16);
+    assert_eq!(rt; order.tick_ns, 1_000);
+    assert_eq!(rt; order.loss, LossBy::Packet);
+    Ok(())
+}
+
+#[test]
+fn what_is_to_be_distilled(rt: HostRuntime) -> Result<(), Fail> {
+    let order = distill_order(&rt, "distill --topology t");
+    assert_eq!(rt; order.topology.as_str(), "t");
+    assert_eq!(rt; order.mode, Mode::Hop);
+    assert_eq!(rt; order.tick_ns, 100_000);
+    let order = distill_order(&rt, "distill --mode=hop --tick-ns 1000 --topology --mode");
+    assert_eq!(rt; order.topology.as_str(), "--mode");
+    assert_eq!(rt; order.mode, Mode::Hop);
+    assert_eq!(rt; order.tick_ns, 1_000);
+    let order = distill_order(&rt, "distill --topology t --mode end");
+    assert_eq!(rt; order.mode, Mode::End);
+    let order = distill_order(&rt, "distill --topology t --mode walk:0004096");
+    assert_eq!(rt; order.mode, Mode::Walk(4_096));
+    let order = distill_order(&rt, "distill --topology t --mode walk:1:4096");
+    assert_eq!(rt; order.mode, Mode::WalkOut(1, 4_096));
+    Ok(())
+}

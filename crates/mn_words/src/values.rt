@@ -1,0 +1,200 @@
+ghost use Rattle.std.specs.Prelude.{◌≡◌, ◌≤◌, [], ◌∷◌, IfSome, MatchOption, None, option_copied};
+ghost use Rattle.mn_base.specs.Decimal.{decimal_of};
+ghost use Rattle.mn_base.specs.Ranges.{IsTickLength};
+ghost use Rattle.distill.specs.Modes.{IsFrontierCount, IsMode};
+ghost use Rattle.mn_words.specs.Values.{number_within, colon_parts, pipe_spec_of, read_or, tick_of, loss_of, mode_of, walk_of, walk_numbers, frontier_count};
+ghost use Rattle.mn_words.specs.Order.{IsPipeSpec};
+
+use crate::order::PipeSpec;
+use distill::Mode;
+use journal::LossBy;
+use mn_base::limits::{
+    BPS_MAX, BPS_MIN, FRONTIERS_MAX, LINK_LATENCY_US_MAX, LOSS_PPM_MAX, QUEUE_MAX, QUEUE_MIN,
+    TICK_NS_DEFAULT, TICK_NS_MAX, TICK_NS_MIN,
+};
+use mn_base::read_u64;
+
+/// The number that a plain decimal text writes, where it is from `least` to `most`.
+#[tactic(auto, unfolding(crate::specs::Values::number_within))]
+fn number_within(text: &str, least: u64, most: u64) -> Option<u64>
+    ensures value { result ≡ number_within least most text.now }
+    ensures least { IfSome result (λ number. least ≤ number) }
+    ensures most { IfSome result (λ number. number ≤ most) }
+{
+    let number = read_u64(text.as_bytes())?;
+    if least <= number && number <= most {
+        Some(number)
+    } else {
+        None
+    }
+}
+
+/// The seed of the loss words: any number, and 0 without the option.
+pub fn seed_or_usual(text: Option<&str>) -> Option<u64>
+    ensures { result ≡ read_or 0 decimal_of (option_copied text.entry) }
+{
+    match text {
+        None => Some(0),
+        Some(text) => read_u64(text.as_bytes()),
+    }
+}
+
+/// The tick length, in ns, and the usual one without the option.
+pub fn tick_or_usual(text: Option<&str>) -> Option<u64>
+    ensures value { result ≡ read_or TICK_NS_DEFAULT tick_of (option_copied text.entry) }
+    ensures range { IfSome result IsTickLength }
+{
+    match text {
+        None => Some(TICK_NS_DEFAULT),
+        Some(text) => number_within(text, TICK_NS_MIN, TICK_NS_MAX),
+    }
+}
+
+/// How loss words are numbered, and by the packet without the option.
+pub fn loss_or_usual(text: Option<&str>) -> Option<LossBy>
+    ensures { result ≡ read_or LossBy.Packet loss_of (option_copied text.entry) }
+{
+    match text {
+        None => Some(LossBy::Packet),
+        Some(text) => loss_of(text),
+    }
+}
+
+/// `packet` or `arrival`.
+#[tactic(auto, unfolding(crate::specs::Values::loss_of))]
+fn loss_of(text: &str) -> Option<LossBy>
+    ensures { result ≡ loss_of text.now }
+{
+    if text == "packet" {
+        Some(LossBy::Packet)
+    } else if text == "arrival" {
+        Some(LossBy::Arrival)
+    } else {
+        None
+    }
+}
+
+/// How much is kept of a topology, and every link without the option.
+pub fn mode_or_usual(text: Option<&str>) -> Option<Mode>
+    ensures value { result ≡ read_or Mode.Hop mode_of (option_copied text.entry) }
+    ensures range { IfSome result IsMode }
+{
+    match text {
+        None => Some(Mode::Hop),
+        Some(text) => mode_of(text),
+    }
+}
+
+/// `hop`, `end`, `walk:W` or `walk:W:O`.
+#[tactic(auto, unfolding(crate::specs::Values::mode_of))]
+fn mode_of(text: &str) -> Option<Mode>
+    ensures value { result ≡ mode_of text.now }
+    ensures range { IfSome result IsMode }
+{
+    if text == "hop" {
+        Some(Mode::Hop)
+    } else if text == "end" {
+        Some(Mode::End)
+    } else {
+        walk_of(text)
+    }
+}
+
+/// The mode of `walk` and the numbers behind its colon.
+#[tactic(auto, unfolding(crate::specs::Values::walk_of), using(crate::proofs::ColonParts::walk_of_one))]
+fn walk_of(text: &str) -> Option<Mode>
+    ensures value { result ≡ walk_of (colon_parts text.now) }
+    ensures range { IfSome result IsMode }
+{
+    let (first, numbers) = first_part(text)?;
+    if first == "walk" {
+        walk_numbers(numbers)
+    } else {
+        None
+    }
+}
+
+/// The mode of one number of frontiers, or of two with a colon between them.
+#[tactic(auto, unfolding(crate::specs::Values::walk_numbers), using(crate::proofs::ColonParts::walk_numbers_more))]
+fn walk_numbers(text: &str) -> Option<Mode>
+    ensures value { result ≡ walk_numbers (colon_parts text.now) }
+    ensures range { IfSome result IsMode }
+{
+    let Some((first, second)) = first_part(text) else {
+        let walk_in = frontier_count(text)?;
+        return Some(Mode::Walk(walk_in));
+    };
+    if first_part(second).is_some() {
+        return None;
+    }
+    let walk_in = frontier_count(first)?;
+    let walk_out = frontier_count(second)?;
+    Some(Mode::WalkOut(walk_in, walk_out))
+}
+
+/// How many frontiers a text names: from 1 to 4,096.
+fn frontier_count(text: &str) -> Option<u32>
+    ensures value { result ≡ frontier_count text.now }
+    ensures range { IfSome result IsFrontierCount }
+{
+    let count = number_within(text, 1, u64::from(FRONTIERS_MAX))?;
+    Some(count as u32)
+}
+
+/// The pipe that a word `BPS:LATENCY_US:QUEUE:PPM` names: four plain decimals in the ranges of a link.
+///
+/// `8000000:5000:50:0` has 8 Mbit/s, 5 ms, room for 50 packets and no loss.
+#[tactic(auto, unfolding(crate::specs::Values::pipe_spec_of, crate::specs::Values::pipe_of_parts))]
+pub fn pipe_spec_of(word: &str) -> Option<PipeSpec>
+    ensures value { result ≡ pipe_spec_of word.now }
+    ensures ranges { IfSome result IsPipeSpec }
+{
+    let parts = pipe_parts(word)?;
+    let bps = number_within(parts.bps, BPS_MIN, BPS_MAX)?;
+    let latency_us = number_within(parts.latency_us, 0, u64::from(LINK_LATENCY_US_MAX))?;
+    let queue = number_within(parts.queue, u64::from(QUEUE_MIN), u64::from(QUEUE_MAX))?;
+    let ppm = number_within(parts.ppm, 0, u64::from(LOSS_PPM_MAX))?;
+    Some(PipeSpec {
+        bps,
+        latency_us: latency_us as u32,
+        queue: queue as u32,
+        ppm: ppm as u32,
+    })
+}
+
+/// The four parts of a PIPE, as texts.
+#[derive(Drop)]
+struct PipeParts<'w> {
+    bps: &'w str,
+    latency_us: &'w str,
+    queue: &'w str,
+    ppm: &'w str,
+}
+
+#[tactic(auto, using(crate::proofs::ColonParts::counts))]
+fn pipe_parts(word: &str) -> Option<PipeParts<'_>>
+    ensures { MatchOption result (pipe_spec_of word.now ≡ None)
+        (λ f. colon_parts word.now ≡ f.bps.now ∷ f.latency_us.now ∷ f.queue.now ∷ f.ppm.now ∷ []) }
+{
+    let (bps, rest) = first_part(word)?;
+    let (latency_us, rest) = first_part(rest)?;
+    let (queue, ppm) = first_part(rest)?;
+    if first_part(ppm).is_some() {
+        return None;
+    }
+    Some(PipeParts {
+        bps,
+        latency_us,
+        queue,
+        ppm,
+    })
+}
+
+/// The text before the first colon, and what stands behind it.
+#[tactic(auto, using(crate::proofs::ColonParts::cuts))]
+fn first_part(text: &str) -> Option<(&str, &str)>
+    ensures { MatchOption result (colon_parts text.now ≡ text.now ∷ [])
+        (λ parts. colon_parts text.now ≡ parts.0.now ∷ colon_parts parts.1.now) }
+{
+    text.split_once(':')
+}

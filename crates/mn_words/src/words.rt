@@ -1,0 +1,125 @@
+ghost use Rattle.std.specs.Prelude.{◌≡◌, ◌≤◌, length, Some, Ok, Err, IfOk, IfErr, true};
+ghost use Rattle.mn_base.specs.Refused.{IfFault};
+ghost use Rattle.mn_words.specs.Form.{bare_words, has_form};
+ghost use Rattle.mn_words.specs.Items.{items_of};
+ghost use Rattle.mn_words.specs.Order.{IsChainOrder, IsDistillOrder};
+ghost use Rattle.mn_words.specs.TheCommands.{form_of, order_of, chain_of, distill_of, text_of};
+ghost use Rattle.mn_words.specs.Words.{ordered, texts, IsInRange};
+
+use crate::form::{Command, command_of, has_form, value_of};
+use crate::opt::{Opt, WordsFault};
+use crate::order::{ChainOrder, DistillOrder, FileName, Order};
+use crate::pipes::chain_pipes;
+use crate::rest::Rest;
+use crate::values::{loss_or_usual, mode_or_usual, seed_or_usual, tick_or_usual};
+use mn_base::{NoMemory, Refusal};
+use std::alloc::Global;
+
+/// What a command line asks for.
+///
+/// `chain --trace F --out F --report F --tick-ns N --seed N --loss L PIPE..` replays a trace through 1 to 16 pipes, each as
+/// `BPS:LATENCY_US:QUEUE:PPM`; `distill --topology F --mode M --tick-ns N` prints the pipes of a distilled topology. Options and
+/// PIPEs may be mixed. An option is `--name value`, whatever the value's word is, or `--name=value`, parted at the first `=`.
+/// Without `--tick-ns` a tick has 100,000 ns, without `--seed` the seed is 0, without `--loss` loss words are numbered by the
+/// `packet` (else by the `arrival`), and without `--mode` it is `hop`, else `end`, `walk:W` or `walk:W:O` with numbers from 1 to
+/// 4,096.
+///
+/// # Errors
+///
+/// `Command` where there is no word or the first isn't a command. `Form` where it is, and the words after it have an option that
+/// the command hasn't, or one twice, or one without a value at the end, or lack a required one, or have a PIPE where the command
+/// has none, or none where it has. `Value` where they are of the form, of the first option in the order of `Opt` whose value is
+/// out of its range.
+#[tactic(auto, unfolding(crate::specs::Words::ordered))]
+pub fn read_words(alloc: Global, words: &[&str]) -> Result<Order, Refusal<WordsFault>>
+    ensures order { IfOk result (λ order. ordered (texts words.now) ≡ Ok order) }
+    ensures ranges { IfOk result IsInRange }
+    ensures fault { IfErr result (λ e. IfFault e (λ fault. ordered (texts words.now) ≡ Err fault)) }
+{
+    let mut rest = Rest::of(words);
+    let Some(first) = rest.next() else {
+        return Err(Refusal::Fault(WordsFault::Command));
+    };
+    let Some(command) = command_of(first) else {
+        return Err(Refusal::Fault(WordsFault::Command));
+    };
+    if !has_form(command, rest.again()) {
+        return Err(Refusal::Fault(WordsFault::Form));
+    }
+    order_of(alloc, command, rest)
+}
+
+/// What the words of a command's form ask for.
+#[tactic(auto, unfolding(crate::specs::TheCommands::order_of))]
+fn order_of(alloc: Global, command: Command, words: Rest) -> Result<Order, Refusal<WordsFault>>
+    requires { has_form (form_of command) words ≡ true }
+    ensures order { IfOk result (λ order. order_of command (items_of words.entry) ≡ Ok order) }
+    ensures ranges { IfOk result IsInRange }
+    ensures fault { IfErr result (λ e. IfFault e (λ fault. order_of command (items_of words.entry) ≡ Err fault)) }
+{
+    match command {
+        Command::Chain => Ok(Order::Chain(chain_of(alloc, words)?)),
+        Command::Distill => Ok(Order::Distill(distill_of(alloc, words)?)),
+    }
+}
+
+#[tactic(auto, unfolding(crate::specs::TheCommands::chain_of))]
+fn chain_of(alloc: Global, words: Rest) -> Result<ChainOrder, Refusal<WordsFault>>
+    requires { 1 ≤ length (bare_words (items_of words)) }
+    ensures order { IfOk result (λ order. chain_of (items_of words.entry) ≡ Ok order) }
+    ensures ranges { IfOk result IsChainOrder }
+    ensures fault { IfErr result (λ e. IfFault e (λ fault. chain_of (items_of words.entry) ≡ Err fault)) }
+{
+    let Some(seed) = seed_or_usual(value_of(words.again(), "--seed")) else {
+        return Err(Refusal::Fault(WordsFault::Value(Opt::Seed)));
+    };
+    let Some(tick_ns) = tick_or_usual(value_of(words.again(), "--tick-ns")) else {
+        return Err(Refusal::Fault(WordsFault::Value(Opt::TickNs)));
+    };
+    let pipes = chain_pipes(alloc, words.again())?;
+    let Some(loss) = loss_or_usual(value_of(words.again(), "--loss")) else {
+        return Err(Refusal::Fault(WordsFault::Value(Opt::Loss)));
+    };
+    let trace = file_of(alloc, words.again(), "--trace")?;
+    let out = file_of(alloc, words.again(), "--out")?;
+    let report = file_of(alloc, words, "--report")?;
+    Ok(ChainOrder {
+        trace,
+        out,
+        report,
+        tick_ns,
+        seed,
+        pipes,
+        loss,
+    })
+}
+
+#[tactic(auto, unfolding(crate::specs::TheCommands::distill_of))]
+fn distill_of(alloc: Global, words: Rest) -> Result<DistillOrder, Refusal<WordsFault>>
+    ensures order { IfOk result (λ order. distill_of (items_of words.entry) ≡ Ok order) }
+    ensures ranges { IfOk result IsDistillOrder }
+    ensures fault { IfErr result (λ e. IfFault e (λ fault. distill_of (items_of words.entry) ≡ Err fault)) }
+{
+    let Some(mode) = mode_or_usual(value_of(words.again(), "--mode")) else {
+        return Err(Refusal::Fault(WordsFault::Value(Opt::Mode)));
+    };
+    let Some(tick_ns) = tick_or_usual(value_of(words.again(), "--tick-ns")) else {
+        return Err(Refusal::Fault(WordsFault::Value(Opt::TickNs)));
+    };
+    let topology = file_of(alloc, words, "--topology")?;
+    Ok(DistillOrder {
+        topology,
+        mode,
+        tick_ns,
+    })
+}
+
+/// The file that an option names, which stands.
+fn file_of(alloc: Global, words: Rest, name: &str) -> Result<FileName, NoMemory>
+    ensures { IfOk result (λ file. file ≡ text_of name.now (items_of words.entry)) }
+{
+    match value_of(words, name) {
+        Some(text) => FileName::copy(alloc, text),
+        None => FileName::copy(alloc, ""),
+    }
+}
