@@ -1,11 +1,14 @@
+pub mod Boxes
 pub mod Crossings
 pub mod Due
 pub mod FewWindows
 pub mod InOrder
+pub mod LeastLatency
 pub mod Leasts
 pub mod Lookaheads
 pub mod Notes
 pub mod Origins
+pub mod PipeSets
 pub mod Sending
 pub mod Starts
 pub mod WindowLaws

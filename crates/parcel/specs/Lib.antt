@@ -7,6 +7,10 @@ pub mod Lookahead
 pub mod Owners
 pub mod ParcelView
 pub mod Parcels
+pub mod PipeSets
+pub mod PlainBoxes
+pub mod PlainBoxesLaws
+pub mod PlainBoxesView
 pub mod Results
 pub mod Told
 pub mod Windows

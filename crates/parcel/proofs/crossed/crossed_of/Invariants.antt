@@ -1,0 +1,5 @@
+use Rattle.parcel.proofs.LeastLatency.{IsSoFar}
+use Rattle.parcel.proofs.crossed.crossed_of.Given as goal
+
+abbrev pub invariant-loop-packet : goal.invariant-loop-packet
+invariant-loop-packet l = IsSoFar l.parts l.packet-items l.packet-index l.crossed l.walked
