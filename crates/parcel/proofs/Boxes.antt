@@ -1,12 +1,11 @@
 -- What a post and a take change: one box of all.
-use Rattle.std.proofs.Common.{◌≡◌, ◌≢◌, ◌⊎◌, inl, inr, ⊎_elim, ℕ, zero, suc, ◌+◌, ◌*◌, ◌<◌, ◌≤◌, List, [], ◌∷◌, length, replicate, map, Bool, true, false, Option, Some, None, slice_index_or, refl, sym, ap, ◌∙◌, subst, arith, get_or-set_same, get_or-set_other}
+use Rattle.std.proofs.Common.{◌≡◌, ◌≢◌, ◌⊎◌, inl, inr, ℕ, zero, suc, ◌+◌, ◌*◌, ◌<◌, ◌≤◌, List, [], ◌∷◌, length, replicate, map, false, Option, Some, None, slice_index_or, refl, sym, ap, ◌∙◌, subst, arith, get_or-set_same, get_or-set_other}
 use Rattle.std.proofs.Math.ListN.{set, length-set}
 use Rattle.std.proofs.lemmas.List.{map-set, get_or-map, length-map, length-replicate, get_or_default}
 use Rattle.std.proofs.lemmas.Bool.{cases_order}
 use Rattle.std.specs.Option.{is_some}
 use Rattle.std.specs.Vec.{with_item}
 use Rattle.mn_base.specs.declared.limits.TheConstants.{CORES_MAX}
-use Rattle.journal.specs.SetupView.{SetupView}
 use Rattle.journal.specs.IsSetup.{IsSetup}
 use Rattle.parcel.specs.ParcelView.{ParcelView}
 use Rattle.parcel.specs.Parcels.{IsParcel}
@@ -32,6 +31,7 @@ rises f p q k b sets more i = go (cases_order i k)
   where
     other : i ≢ k → f (at p i) ≤ f (at q i)
     other ne = let e = ap f (sets.elsewhere i ne) in omega arith
+
     go : (i ≡ k) ⊎ ((i < k) ⊎ (k < i)) → f (at p i) ≤ f (at q i)
     go (inl e) =
         let P : ℕ → Type 0 = λ n. f (at p n) ≤ f (at q n) in
@@ -75,6 +75,7 @@ posts_one p q to b within sets more same = record {
   where
     moved : (j : ℕ) → posted_to q j ≡ (box_at q p.core j).posted
     moved j = ap (λ (core : ℕ). (box_at q core j).posted) sets.core
+
     moved_taken : (j : ℕ) → taken_from q j ≡ (box_at q j p.core).taken
     moved_taken j = ap (λ (core : ℕ). (box_at q j core).taken) sets.core
 
@@ -103,6 +104,7 @@ takes_one p q from b within sets same more = record {
   where
     moved : (j : ℕ) → posted_to q j ≡ (box_at q p.core j).posted
     moved j = ap (λ (core : ℕ). (box_at q core j).posted) sets.core
+
     moved_taken : (j : ℕ) → taken_from q j ≡ (box_at q j p.core).taken
     moved_taken j = ap (λ (core : ℕ). (box_at q j core).taken) sets.core
 
@@ -146,9 +148,9 @@ posts_box s p is are to k known at_k old read free new =
     let none_there : parcels_in old.parcel ≡ 0 = ap parcels_in (none old.parcel free) in
     let posted : posted_to p to ≡ old.taken + parcels_in old.parcel = ap (λ (b : BoxView). b.posted) seen in
     posts_one p after to (seen_box fresh) (omega (arith, are.cores))
-        (subst (λ (n : ℕ). Sets p after n (seen_box fresh)) here (sets_of s p is k fresh within))
-        (omega arith)
-        (ap (λ (b : BoxView). b.taken) (sym seen))
+    (subst (λ (n : ℕ). Sets p after n (seen_box fresh)) here (sets_of s p is k fresh within))
+    (omega arith)
+    (ap (λ (b : BoxView). b.taken) (sym seen))
   where
     none : (o : Option ParcelView) → is_some o ≡ false → o ≡ None
     none None free = refl
@@ -170,9 +172,9 @@ takes_box s p is are from k known at_k old read given full rest bare =
     let none_left : parcels_in rest ≡ 0 = ap parcels_in bare in
     let posted : (box_at p from p.core).posted ≡ old.taken + parcels_in old.parcel = ap (λ (b : BoxView). b.posted) seen in
     takes_one p after from (seen_box new) (omega (arith, are.cores, are.core))
-        (subst (λ (n : ℕ). Sets p after n (seen_box new)) here (sets_of s p is k new within))
-        (omega arith)
-        (ap (λ (b : BoxView). b.taken + 1) (sym seen))
+    (subst (λ (n : ℕ). Sets p after n (seen_box new)) here (sets_of s p is k new within))
+    (omega arith)
+    (ap (λ (b : BoxView). b.taken + 1) (sym seen))
 
 -- the parcel in a box is that of the number to be taken
 pub parcel_in : (s : Inside) (p : PlainBoxesView) → view_of s ≡ p → AreBoxes s → (from k : ℕ) → from < p.setup.cores → k ≡ place from s.core
@@ -189,7 +191,7 @@ parcel_in s p is are from k known at_k old read given full =
     let seen : taken_from (view_of s) from ≡ old.taken =
     ap (λ (b : BoxView). b.taken) (subst (λ (n : ℕ). at (view_of s) n ≡ seen_box old) at_k (seen_at s (view_of s) refl k old within read)) in
     subst (λ (v : PlainBoxesView). IsParcel v.setup from v.core (taken_from v from) given) is
-        (subst (λ (n : ℕ). IsParcel s.setup.now from s.core n given) (sym seen) numbered)
+    (subst (λ (n : ℕ). IsParcel s.setup.now from s.core n given) (sym seen) numbered)
 
 -- ---- each box is in step
 
@@ -242,15 +244,18 @@ sets_box s are sender receiver k low also at_k new holds = record {
   where
     within : k < length s.boxes.items
     within = within_boxes s are sender receiver k low also at_k
+
     column : receiver < CORES_MAX
     column = let h = are.cores in omega (arith, also, h)
+
     other : (a b : ℕ) (p : ParcelView) → b < CORES_MAX → place a b ≢ k
         → (slice_index_or (set s.boxes.items k new) (place a b) bare_box).parcel ≡ Some p
         → IsParcel s.setup.now a b (slice_index_or (set s.boxes.items k new) (place a b) bare_box).taken p
     other a b p inside ne there =
         let same = get_or-set_other s.boxes.items k (place a b) new bare_box ne in
         subst (λ (x : PlainBox). IsParcel s.setup.now a b x.taken p) (sym same)
-            (are.parcels a b p inside (ap (λ (x : PlainBox). x.parcel) (sym same) ∙ there))
+        (are.parcels a b p inside (ap (λ (x : PlainBox). x.parcel) (sym same) ∙ there))
+
     go : (a b : ℕ) (p : ParcelView) → b < CORES_MAX → (place a b ≡ k) ⊎ ((place a b < k) ⊎ (k < place a b))
         → (slice_index_or (set s.boxes.items k new) (place a b) bare_box).parcel ≡ Some p
         → IsParcel s.setup.now a b (slice_index_or (set s.boxes.items k new) (place a b) bare_box).taken p
@@ -306,11 +311,12 @@ module _ (s : Inside) (p : PlainBoxesView) (is : view_of s ≡ p) (are : AreBoxe
         there : slice_index_or s.boxes.items (place s.core to) bare_box ≡ old
         there =
             ap (λ (n : ℕ). slice_index_or s.boxes.items n bare_box) (sym at_k) ∙ get_or_default s.boxes.items k bare_box old within-to ∙ sym read
+
         holds : (q : ParcelView) → old.parcel ≡ Some q → IsParcel s.setup.now s.core to old.taken q
         holds q full =
             let inside : to < CORES_MAX = let h = are.cores in omega (arith, h, low-to) in
             subst (λ (b : PlainBox). IsParcel s.setup.now s.core to b.taken q) there
-                (are.parcels s.core to q inside (ap (λ (b : PlainBox). b.parcel) there ∙ full))
+            (are.parcels s.core to q inside (ap (λ (b : PlainBox). b.parcel) there ∙ full))
 
     -- a box with the parcel that is posted
     pub post_kept : is_some old.parcel ≡ false → (new : ParcelView) → IsParcel p.setup p.core to (posted_to p to) new
@@ -320,15 +326,19 @@ module _ (s : Inside) (p : PlainBoxesView) (is : view_of s ≡ p) (are : AreBoxe
         none : (o : Option ParcelView) → is_some o ≡ false → parcels_in o ≡ 0
         none None free = refl
         none (Some x) free = cc
+
         numbered : IsParcel s.setup.now s.core to (posted_to (view_of s) to) new
         numbered = subst (λ (v : PlainBoxesView). IsParcel v.setup v.core to (posted_to v to) new) (sym is) parcel
+
         seen : box_at (view_of s) s.core to ≡ seen_box old
         seen = subst (λ (n : ℕ). at (view_of s) n ≡ seen_box old) at_k (seen_at s (view_of s) refl k old within-to read)
+
         posted : posted_to (view_of s) to ≡ old.taken
         posted =
             let e : posted_to (view_of s) to ≡ old.taken + parcels_in old.parcel = ap (λ (b : BoxView). b.posted) seen in
             let n = none old.parcel free in omega (arith, e, n)
+
         holds : (q : ParcelView) → Some new ≡ Some q → IsParcel s.setup.now s.core to old.taken q
         holds q same =
             subst (λ (x : ParcelView). IsParcel s.setup.now s.core to old.taken x) (some-one new q same)
-                (subst (λ (n : ℕ). IsParcel s.setup.now s.core to n new) posted numbered)
+            (subst (λ (n : ℕ). IsParcel s.setup.now s.core to n new) posted numbered)

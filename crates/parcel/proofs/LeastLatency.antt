@@ -1,6 +1,6 @@
 -- The lookahead as it is found: the pipes that packets leave for a pipe of another core, as a set, and the least of their latencies.
-use Rattle.std.proofs.Common.{◌≡◌, ◌≢◌, ◌⊎◌, ◌↔◌, inl, inr, ⊎_elim, ℕ, zero, suc, ◌+◌, ◌-◌, ◌<◌, ◌≤◌, ◌==◌, Bool, true, false, cond, min, List, [], ◌∷◌, ◌++◌, length, take, map, filter, fold, Option, Some, All, slice_get, slice_index, slice_index_or, refl, sym, ap, ◌∙◌, subst, arith, eqb-true, eq-eqb, true≢false, unwrap_or}
-use Rattle.std.proofs.lemmas.Bool.{cases_order, cases_lt, false_from_ne_true}
+use Rattle.std.proofs.Common.{◌≡◌, ◌≢◌, ◌⊎◌, ◌↔◌, inl, inr, ⊎_elim, ℕ, zero, suc, ◌+◌, ◌-◌, ◌<◌, ◌≤◌, ◌==◌, Bool, true, false, cond, min, List, [], ◌∷◌, ◌++◌, length, take, map, filter, fold, All, slice_get, slice_index, slice_index_or, refl, sym, ap, ◌∙◌, subst, arith, eqb-true, eq-eqb, true≢false, unwrap_or}
+use Rattle.std.proofs.lemmas.Bool.{cases_lt, false_from_ne_true}
 use Rattle.std.proofs.lemmas.List.{append-nil, get_or-map, length-map, get_or_default}
 use Rattle.std.specs.List.{flat_map}
 use Rattle.mn_base.specs.Among.{Among}
@@ -13,8 +13,8 @@ use Rattle.journal.specs.IsSetup.{IsSetup}
 use Rattle.parcel.specs.Owners.{owner_of}
 use Rattle.parcel.specs.Lookahead.{crossed_pipes, latencies_of, crossing_latencies, lookahead_of}
 use Rattle.parcel.specs.PipeSets.{Has, IsCrossed, crossed_by, HasRoutesBefore, AddsRoute, IsLeastOf, IsFirstLatency, IsChangedLatency}
-use Rattle.mn_base.proofs.Members.{Among-append-left, Among-append-right, Among-append, Among-map, Among-from-map, Among-filter, Among-from-filter, Among-index, IndexOf, index_of, All-Among}
-use Rattle.journal.proofs.Packets.{packet-known, packet-route, HasRoute}
+use Rattle.mn_base.proofs.Members.{Among-append-left, Among-append-right, Among-append, Among-map, Among-from-map, Among-filter, Among-from-filter, Among-index, index_of, All-Among}
+use Rattle.journal.proofs.Packets.{packet-known, packet-route}
 use Rattle.parcel.proofs.Lookaheads.{fold-min-bound, fold-min-among, fold-min-reached, Among-flat_map, Among-from-flat_map}
 
 -- ---- one route, hop by hop
@@ -73,7 +73,7 @@ hop_left S route old before after hop low within has differ adds = λ q. (forth 
     more q (inl a) = subst (Among q) (sym is) (Among-append-left q (crossed_pipes S (take hop route)) (slice_index route (hop - 1) ∷ []) a)
     more q (inr e) =
         subst (Among q) (sym is)
-            (Among-append-right q (crossed_pipes S (take hop route)) (slice_index route (hop - 1) ∷ []) (inl e))
+        (Among-append-right q (crossed_pipes S (take hop route)) (slice_index route (hop - 1) ∷ []) (inl e))
 
     forth : (q : ℕ) → Has after q → Has old q ⊎ Among q (crossed_pipes S (take (hop + 1) route))
     forth q there = go ((adds q).0 there)
@@ -123,6 +123,7 @@ adds_route S old new route walked list is adds before same = record {
   where
     added : (q : ℕ) → Among q (crossed_by S route) → Has new q
     added q a = (adds q).1 (inr (subst (λ (l : List ℕ). Among q (crossed_pipes S l)) (sym is) a))
+
     go : (r q : ℕ) → Among q (crossed_by S r) → (r < walked) ⊎ (walked ≤ r) → r < walked + 1 → Has new q
     go r q a (inl l) low = (adds q).1 (inl (before r q l a))
     go r q a (inr h) low =
@@ -150,11 +151,14 @@ packet_added S is plans same index within plan read old new walked end so_far ad
     member : Among plan S.packets
     member = subst (λ (l : List PacketPlan). Among plan l) same
         (subst (λ (p : PacketPlan). Among p plans) (sym read) (Among-index plans index plan within))
+
     way : slice_index_or S.routes plan.route [] ≡ route_of S plan.number
     way = (packet-route S is plan (packet-known S is plan member)).is
+
     sound : (q : ℕ) → Has old q ⊎ Among q (crossed_by S plan.route) → IsCrossed S q
     sound q (inl o) = so_far.sound q o
     sound q (inr a) = (plan, member, subst (λ (l : List ℕ). Among q (crossed_pipes S l)) way a)
+
     complete : (k q : ℕ) (p : PacketPlan) → Among q (crossed_pipes S (route_of S (slice_index_or plans k p).number))
         → (k < index) ⊎ (index ≤ k) → k < index + 1 → Has new q
     complete k q p a (inl l) low = adds.kept q (so_far.complete k q p l a)
@@ -174,7 +178,7 @@ all_crossed S plans same index done marks walked so_far q = (so_far.sound q, bac
     back c =
         let there = index_of c.0 plans (subst (λ (l : List PacketPlan). Among c.0 l) (sym same) c.1) in
         so_far.complete there.index q c.0 (omega (arith, there.within))
-            (subst (λ (z : PacketPlan). Among q (crossed_pipes S (route_of S z.number))) (sym (there.here c.0)) c.2)
+        (subst (λ (z : PacketPlan). Among q (crossed_pipes S (route_of S z.number))) (sym (there.here c.0)) c.2)
 
 -- ---- the least of many
 
@@ -191,6 +195,7 @@ least_more old Is end least latency so_far here one = record {
     low_at k x there (inr h) low =
         let e : k ≡ end = omega arith in
         let f : x ≡ latency = one x (subst (λ (n : ℕ). Is n x) e there) in omega arith
+
     go : (latency < least) ⊎ (least ≤ latency) → (least ≡ old) ⊎ ((k : ℕ) × (k < end) × Is k least)
         → (min least latency ≡ old) ⊎ ((k : ℕ) × (k < end + 1) × Is k (min least latency))
     go (inl l) r = let e : latency ≡ min least latency = omega arith in inr (end, omega arith, subst (Is end) e here)
@@ -211,6 +216,7 @@ least_same old Is end least so_far none = record {
     low_at k x there (inl l) low = so_far.least k x l there
     low_at k x there (inr h) low =
         let e : k ≡ end = omega arith in absurd (none x (subst (λ (n : ℕ). Is n x) e there))
+
     go : (least ≡ old) ⊎ ((k : ℕ) × (k < end) × Is k least) → (least ≡ old) ⊎ ((k : ℕ) × (k < end + 1) × Is k least)
     go (inl o) = inl o
     go (inr r) = let low : r.0 < end = r.1 in inr (r.0, omega arith, r.2)
@@ -249,13 +255,13 @@ module _ (S : SetupView) (marks : List Bool) (changes : List PipeChange) (same :
   changed_more so_far has =
       let at : slice_index_or S.changes k c ≡ c = ap (λ (l : List PipeChange). slice_index_or l k c) (sym same) ∙ sym read in
       least_more old (IsChangedLatency S marks) k least c.params.latency_ticks so_far (c, at, has, refl)
-          (λ x there. sym there.3 ∙ ap (λ (d : PipeChange). d.params.latency_ticks) (change-is there.0 there.1))
+      (λ x there. sym there.3 ∙ ap (λ (d : PipeChange). d.params.latency_ticks) (change-is there.0 there.1))
 
   pub changed_same : IsLeastOf old (IsChangedLatency S marks) k least → slice_index_or marks c.pipe false ≡ false
       → IsLeastOf old (IsChangedLatency S marks) (k + 1) least
   changed_same so_far hasnt =
       least_same old (IsChangedLatency S marks) k least so_far
-          (λ x there. true≢false (sym there.2 ∙ ap (λ (d : PipeChange). slice_index_or marks d.pipe false) (change-is there.0 there.1) ∙ hasnt))
+      (λ x there. true≢false (sym there.2 ∙ ap (λ (d : PipeChange). slice_index_or marks d.pipe false) (change-is there.0 there.1) ∙ hasnt))
 
 -- ---- and that is the lookahead
 
@@ -281,13 +287,13 @@ module _ (S : SetupView) (is : IsSetup S) (marks : List Bool) (crossed : (q : �
   crossing : (q latency : ℕ) → IsCrossed S q → Among latency (latencies_of S q) → Among latency (crossing_latencies S)
   crossing q latency c a =
       Among-flat_map (λ (p : PacketPlan). flat_map (latencies_of S) (crossed_pipes S (route_of S p.number))) c.0 latency S.packets c.1
-          (Among-flat_map (latencies_of S) q latency (crossed_pipes S (route_of S c.0.number)) c.2 a)
+      (Among-flat_map (latencies_of S) q latency (crossed_pipes S (route_of S c.0.number)) c.2 a)
 
   changed : (c : PipeChange) (q : ℕ) → Among c S.changes → c.pipe ≡ q → Among c.params.latency_ticks (latencies_of S q)
   changed c q a e =
       inr (Among-map (λ (d : ℕ × PipeParams). d.1.latency_ticks) (c.tick, c.params) (changes_of S q)
-          (Among-map (λ (d : PipeChange). (d.tick, d.params)) c (filter (λ d. d.pipe == q) S.changes)
-              (Among-filter (λ (d : PipeChange). d.pipe == q) c S.changes a (eq-eqb c.pipe q e))))
+      (Among-map (λ (d : PipeChange). (d.tick, d.params)) c (filter (λ d. d.pipe == q) S.changes)
+      (Among-filter (λ (d : PipeChange). d.pipe == q) c S.changes a (eq-eqb c.pipe q e))))
 
   module _ (m r : ℕ) (firsts : IsLeastOf LOOKAHEAD_MAX (IsFirstLatency S marks) (length S.pipes) m)
       (changes : IsLeastOf m (IsChangedLatency S marks) (length S.changes) r) where
@@ -325,7 +331,7 @@ module _ (S : SetupView) (is : IsSetup S) (marks : List Bool) (crossed : (q : �
             let member : Among c S.changes =
             subst (λ (z : PipeChange). Among z S.changes) f.2.1 (Among-index S.changes f.0 c f.1) in
             inr (crossing c.pipe r ((crossed c.pipe).0 f.2.2)
-                (subst (λ (x : ℕ). Among x (latencies_of S c.pipe)) f.2.3 (changed c c.pipe member refl)))
+            (subst (λ (x : ℕ). Among x (latencies_of S c.pipe)) f.2.3 (changed c c.pipe member refl)))
 
     pub is_least : r ≡ lookahead_of S
     unfolding lookahead_of
@@ -336,11 +342,13 @@ module _ (S : SetupView) (is : IsSetup S) (marks : List Bool) (crossed : (q : �
       where
         top : r ≤ LOOKAHEAD_MAX
         top = let a : r ≤ m = changes.bound in let b : m ≤ LOOKAHEAD_MAX = firsts.bound in omega arith
+
         go : (fold min LOOKAHEAD_MAX (crossing_latencies S) ≡ LOOKAHEAD_MAX)
             ⊎ Among (fold min LOOKAHEAD_MAX (crossing_latencies S)) (crossing_latencies S)
             → r ≤ fold min LOOKAHEAD_MAX (crossing_latencies S)
         go (inl e) = let t : r ≤ LOOKAHEAD_MAX = top in omega arith
         go (inr a) = low-of (fold min LOOKAHEAD_MAX (crossing_latencies S)) a
+
         back : (r ≡ LOOKAHEAD_MAX) ⊎ Among r (crossing_latencies S) → fold min LOOKAHEAD_MAX (crossing_latencies S) ≤ r
         back (inl e) = let h = fold-min-bound LOOKAHEAD_MAX (crossing_latencies S) in omega (arith, h, e)
         back (inr a) = fold-min-among LOOKAHEAD_MAX r (crossing_latencies S) a

@@ -6,6 +6,7 @@ pub mod InOrder
 pub mod LeastLatency
 pub mod Leasts
 pub mod Lookaheads
+pub mod NoPackets
 pub mod Notes
 pub mod Origins
 pub mod PipeSets

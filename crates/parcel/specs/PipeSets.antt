@@ -1,5 +1,5 @@
 -- Sets of pipes, as a mark for each pipe, and the pipes that bound the lookahead.
-use Rattle.std.specs.Prelude.{◌≡◌, ◌⊎◌, ◌↔◌, ℕ, ◌<◌, ◌≤◌, Bool, true, false, List, [], length, slice_index_or}
+use Rattle.std.specs.Prelude.{◌≡◌, ◌⊎◌, ℕ, ◌<◌, ◌≤◌, Bool, true, false, List, [], slice_index_or}
 use Rattle.mn_base.specs.Among.{Among}
 use Rattle.journal.specs.declared.setup.PacketPlan.{PacketPlan}
 use Rattle.journal.specs.declared.setup.PipeChange.{PipeChange}

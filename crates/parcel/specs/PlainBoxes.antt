@@ -1,7 +1,6 @@
 -- The fields of plain boxes.
-use Rattle.std.specs.Prelude.{◌≡◌, ℕ, ◌+◌, ◌*◌, ◌^◌, ◌<◌, ◌≤◌, Bool, List, length, map, Option, Some, None, slice_index_or}
+use Rattle.std.specs.Prelude.{◌≡◌, ℕ, ◌+◌, ◌*◌, ◌^◌, ◌<◌, ◌≤◌, length, map, Option, Some, None, slice_index_or}
 use Rattle.mn_base.specs.declared.limits.TheConstants.{CORES_MAX}
-use Rattle.journal.specs.SetupView.{SetupView}
 use Rattle.parcel.specs.declared.plain_boxes.PlainBox.{PlainBox}
 use Rattle.parcel.specs.declared.plain_boxes.PlainBoxes.TheInside.{Inside}
 use Rattle.parcel.specs.ParcelView.{ParcelView}

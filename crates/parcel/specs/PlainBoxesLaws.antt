@@ -1,7 +1,7 @@
 -- `Keeps` is reflexive and transitive.
-use Rattle.std.specs.Prelude.{◌≡◌, ◌≢◌, ℕ, ◌≤◌, refl}
-use Rattle.std.proofs.Common.{arith, sym, subst, ap, ◌∙◌}
-use Rattle.parcel.specs.PlainBoxesView.{PlainBoxesView, Keeps, box_at, posted_to, taken_from}
+use Rattle.std.specs.Prelude.{ℕ, refl}
+use Rattle.std.proofs.Common.{arith, ap, ◌∙◌}
+use Rattle.parcel.specs.PlainBoxesView.{PlainBoxesView, Keeps, box_at}
 
 pub keeps_refl : (p : PlainBoxesView) → Keeps p p
 keeps_refl p = record {

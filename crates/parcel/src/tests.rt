@@ -1,7 +1,41 @@
-use crate::{CoreCounts, CoreResult, Note, Parcel, Settled};
-use journal::Fate;
-use mn_base::{Bytes, Cause};
+use crate::{CoreCounts, CoreResult, Empty, Note, Parcel, PlainBoxes, Ports, Settled, lookahead};
+use journal::{Fate, LossBy, PacketPlan, PipeChange, Setup, SetupParts};
+use mn_base::limits::KEEP_MAX;
+use mn_base::{Bytes, Cause, PipeParams};
 use std::test::Fail;
+
+/// A pipe of this latency in ticks of 100,000 ns.
+macro_rules! pipe {
+    ($ticks:expr) => {
+        PipeParams {
+            bps: 8_000_000,
+            latency_us: 5_000,
+            latency_ticks: $ticks,
+            queue: 50,
+            keep: KEEP_MAX,
+        }
+    };
+}
+
+/// The setup of so many cores, with pipes of these latencies in ticks, owners, routes and changes (a pipe, and its latency from
+/// tick 1,000 on). One packet enters for each of the packets' routes.
+macro_rules! setup {
+    ($rt:expr, $cores:expr, [$($ticks:expr),*], [$($owner:expr),*], [$([$($hop:expr),*]),*], [$($number:expr => $route:expr),*], [$($pipe:expr => $then:expr),*]) => {
+        Setup::new(SetupParts {
+            tick_ns: 100_000,
+            seed: 0,
+            base_ns: 0,
+            link_type: 101,
+            cores: $cores,
+            pipes: vec![in $rt.alloc(); $(pipe!($ticks)),*]?,
+            owners: vec![in $rt.alloc(); $($owner),*]?,
+            routes: vec![in $rt.alloc(); $(vec![in $rt.alloc(); $($hop),*]?),*]?,
+            packets: vec![in $rt.alloc(); $(PacketPlan { entry_tick: 0, number: $number, len: 1000, route: $route, core: 0 }),*]?,
+            changes: vec![in $rt.alloc(); $(PipeChange { tick: 1000, pipe: $pipe, params: pipe!($then) }),*]?,
+            loss: LossBy::Packet,
+        })
+    };
+}
 
 fn may_move_to_a_thread<T: Send>(_value: &T) {}
 
@@ -50,5 +84,78 @@ fn results_go_to_other_threads(rt: HostRuntime) -> Result<(), Fail> {
     };
     may_move_to_a_thread(&result);
     assert_eq!(rt; result.settled.len(), 1);
+    Ok(())
+}
+
+/// Two packets from cores 0 and 1 meet at a pipe of core 2.
+#[test]
+fn the_lookahead_is_the_latency_to_another_core(rt: HostRuntime) -> Result<(), Fail> {
+    let setup = setup!(
+        rt,
+        3,
+        [50, 50, 50, 50, 50, 50],
+        [0, 0, 1, 1, 2, 2],
+        [[0, 4], [2, 4]],
+        [0 => 0, 1 => 1],
+        []
+    );
+    assert_eq!(rt; lookahead(&setup), 50);
+    Ok(())
+}
+
+/// Pipe 0 is changed to a latency of one tick.
+#[test]
+fn the_lookahead_is_over_all_changes(rt: HostRuntime) -> Result<(), Fail> {
+    let setup = setup!(
+        rt,
+        3,
+        [50, 50, 50, 50, 50, 50],
+        [0, 0, 1, 1, 2, 2],
+        [[0, 4], [2, 4]],
+        [0 => 0, 1 => 1],
+        [0 => 1]
+    );
+    assert_eq!(rt; lookahead(&setup), 1);
+    Ok(())
+}
+
+/// Pipe 2 alone is left for a pipe of the other core.
+#[test]
+fn other_pipes_do_not_count(rt: HostRuntime) -> Result<(), Fail> {
+    let setup = setup!(
+        rt,
+        2,
+        [10, 10, 200, 10],
+        [0, 0, 0, 1],
+        [[0, 2, 3]],
+        [0 => 0],
+        [3 => 1]
+    );
+    assert_eq!(rt; lookahead(&setup), 200);
+    Ok(())
+}
+
+#[test]
+fn one_core_has_the_greatest_lookahead(rt: HostRuntime) -> Result<(), Fail> {
+    let setup = setup!(rt, 1, [10, 10], [0, 0], [[0, 1]], [0 => 0], []);
+    assert_eq!(rt; lookahead(&setup), 1_099_511_627_776);
+    Ok(())
+}
+
+/// A setup without packets has no window: each core posts one parcel to each other, and it has no note.
+#[test]
+fn a_parcel_goes_through_its_box(rt: HostRuntime) -> Result<(), Fail> {
+    let alloc = rt.alloc();
+    let setup = setup!(rt, 2, [], [], [], [], []);
+    let mut boxes = PlainBoxes::new(alloc, &setup)?;
+    may_move_to_a_thread(&boxes);
+    assert_eq!(rt; boxes.try_take(1).err(), Some(Empty { seen: 0 }));
+    let parcel = Parcel {
+        notes: Vec::new(alloc),
+        least: None,
+    };
+    assert!(rt; boxes.try_post(1, parcel).is_ok());
+    boxes.serve(1);
+    assert!(rt; boxes.try_take(0).is_ok());
     Ok(())
 }

@@ -1,4 +1,4 @@
-use Rattle.std.proofs.Common.{ℕ, ◌≡◌, ◌+◌, ◌-◌, ◌<◌, List, Bool, length, slice_index, sym, ap, ◌∙◌, subst, arith}
+use Rattle.std.proofs.Common.{ℕ, ◌≡◌, ◌+◌, ◌-◌, ◌<◌, List, length, slice_index, sym, ap, ◌∙◌, subst, arith}
 use Rattle.journal.specs.SetupView.{SetupView}
 use Rattle.parcel.specs.Owners.{owner_of}
 use Rattle.parcel.proofs.LeastLatency.{HasHops, owner_is, hop_left, hop_stays}
@@ -18,11 +18,11 @@ loop-hop-preserved c =
     owner_is c.args.parts.now _ owners _ (c.requires.named hop 0 within) _ c.index-in-loop-hop.ensures in
     elim c.if-index.branch [
       | then-index w ↦
-        subst (HasHops c.args.parts.now route c.args.crossed.now (hop + 1)) (sym w.crossed-is)
-            (hop_left c.args.parts.now route c.args.crossed.now c.loop-hop.crossed _ hop c.loop-hop.auto.hop within c.loop-hop.invariant
-                (λ same. w.if-index.true (one ∙ same ∙ sym two)) w.add.ensures)
+          subst (HasHops c.args.parts.now route c.args.crossed.now (hop + 1)) (sym w.crossed-is)
+          (hop_left c.args.parts.now route c.args.crossed.now c.loop-hop.crossed _ hop c.loop-hop.auto.hop within c.loop-hop.invariant
+          (λ same. w.if-index.true (one ∙ same ∙ sym two)) w.add.ensures)
       | else-index w ↦
-        subst (HasHops c.args.parts.now route c.args.crossed.now (hop + 1)) (sym w.crossed-is)
-            (hop_stays c.args.parts.now route c.args.crossed.now c.loop-hop.crossed hop c.loop-hop.auto.hop within c.loop-hop.invariant
-                (sym one ∙ w.if-index.false ∙ two))
+          subst (HasHops c.args.parts.now route c.args.crossed.now (hop + 1)) (sym w.crossed-is)
+          (hop_stays c.args.parts.now route c.args.crossed.now c.loop-hop.crossed hop c.loop-hop.auto.hop within c.loop-hop.invariant
+          (sym one ∙ w.if-index.false ∙ two))
     ]

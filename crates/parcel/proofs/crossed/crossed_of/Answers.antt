@@ -1,4 +1,4 @@
-use Rattle.std.proofs.Common.{ℕ, ◌≡◌, List, sym, ap, ◌∙◌, subst}
+use Rattle.std.proofs.Common.{List, ap, ◌∙◌}
 use Rattle.std.proofs.lemmas.List.{get_or_default}
 use Rattle.journal.specs.declared.setup.PacketPlan.{PacketPlan}
 use Rattle.journal.specs.SetupView.{SetupView}
@@ -10,11 +10,11 @@ loop-packet-preserved c =
     let plans : List PacketPlan = c.deref-packet-items.result.now in
     let same = c.deref-packet-items.ensures.value ∙ ap (λ (v : SetupView). v.packets) c.parts.view_is in
     packet_added c.args.parts.now c.requires plans same c.loop-packet.packet-index c.loop-packet-test.true _
-        (get_or_default plans c.loop-packet.packet-index _ _ c.loop-packet-test.true)
-        c.loop-packet.crossed c.walk-walked.new.crossed c.loop-packet.walked c.walk-walked.result c.loop-packet.invariant c.walk-walked.ensures
+    (get_or_default plans c.loop-packet.packet-index _ _ c.loop-packet-test.true)
+    c.loop-packet.crossed c.walk-walked.new.crossed c.loop-packet.walked c.walk-walked.result c.loop-packet.invariant c.walk-walked.ensures
 
 pub returns : goal.returns
 returns c =
     let same = c.deref-packet-items.ensures.value ∙ ap (λ (v : SetupView). v.packets) c.parts.view_is in
     all_crossed c.args.parts.now c.deref-packet-items.result.now same c.loop-packet.packet-index c.loop-packet-test.false c.loop-packet.crossed
-        c.loop-packet.walked c.loop-packet.invariant
+    c.loop-packet.walked c.loop-packet.invariant

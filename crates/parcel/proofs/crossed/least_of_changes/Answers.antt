@@ -11,11 +11,11 @@ loop-change-preserved c =
     let Is = IsChangedLatency c.args.parts.now c.args.crossed.now in
     elim c.if-has.branch [
       | then-has w ↦
-        subst (IsLeastOf c.args.latency Is (c.loop-change.change-index + 1)) (sym (w.least-is ∙ w.min-least.ensures))
-            (changed_more c.args.parts.now c.args.crossed.now _ same c.loop-change.change-index c.loop-change-test.true c.change-item.result
-                c.change-item.is c.args.latency c.loop-change.least c.loop-change.invariant (sym c.has.ensures ∙ w.if-has.true))
+          subst (IsLeastOf c.args.latency Is (c.loop-change.change-index + 1)) (sym (w.least-is ∙ w.min-least.ensures))
+          (changed_more c.args.parts.now c.args.crossed.now _ same c.loop-change.change-index c.loop-change-test.true c.change-item.result
+          c.change-item.is c.args.latency c.loop-change.least c.loop-change.invariant (sym c.has.ensures ∙ w.if-has.true))
       | else-has w ↦
-        subst (IsLeastOf c.args.latency Is (c.loop-change.change-index + 1)) (sym w.least-is)
-            (changed_same c.args.parts.now c.args.crossed.now _ same c.loop-change.change-index c.loop-change-test.true c.change-item.result
-                c.change-item.is c.args.latency c.loop-change.least c.loop-change.invariant (sym c.has.ensures ∙ w.if-has.false))
+          subst (IsLeastOf c.args.latency Is (c.loop-change.change-index + 1)) (sym w.least-is)
+          (changed_same c.args.parts.now c.args.crossed.now _ same c.loop-change.change-index c.loop-change-test.true c.change-item.result
+          c.change-item.is c.args.latency c.loop-change.least c.loop-change.invariant (sym c.has.ensures ∙ w.if-has.false))
     ]

@@ -12,11 +12,11 @@ loop-pipe-preserved c =
     let Is = IsFirstLatency c.args.parts.now c.args.crossed.now in
     elim c.if-has.branch [
       | then-has w ↦
-        subst (IsLeastOf LOOKAHEAD_MAX Is (c.loop-pipe.pipe + 1)) (sym (w.least-is ∙ w.min-least.ensures))
-            (first_more c.args.parts.now c.args.crossed.now _ same c.loop-pipe.pipe c.loop-pipe-test.true c.params-item.result
-                c.params-item.is c.loop-pipe.least c.loop-pipe.invariant (sym c.has.ensures ∙ w.if-has.true))
+          subst (IsLeastOf LOOKAHEAD_MAX Is (c.loop-pipe.pipe + 1)) (sym (w.least-is ∙ w.min-least.ensures))
+          (first_more c.args.parts.now c.args.crossed.now _ same c.loop-pipe.pipe c.loop-pipe-test.true c.params-item.result
+          c.params-item.is c.loop-pipe.least c.loop-pipe.invariant (sym c.has.ensures ∙ w.if-has.true))
       | else-has w ↦
-        subst (IsLeastOf LOOKAHEAD_MAX Is (c.loop-pipe.pipe + 1)) (sym w.least-is)
-            (first_same c.args.parts.now c.args.crossed.now _ same c.loop-pipe.pipe c.loop-pipe-test.true c.params-item.result
-                c.params-item.is c.loop-pipe.least c.loop-pipe.invariant (sym c.has.ensures ∙ w.if-has.false))
+          subst (IsLeastOf LOOKAHEAD_MAX Is (c.loop-pipe.pipe + 1)) (sym w.least-is)
+          (first_same c.args.parts.now c.args.crossed.now _ same c.loop-pipe.pipe c.loop-pipe-test.true c.params-item.result
+          c.params-item.is c.loop-pipe.least c.loop-pipe.invariant (sym c.has.ensures ∙ w.if-has.false))
     ]

@@ -8,5 +8,5 @@ pub returns : goal.returns
 returns c =
     let setup = c.parts-parts.ensures in
     is_least c.parts-parts.result.now (subst IsSetup (sym setup.same) setup.kept) c.crossed_of-crossed.result c.crossed_of-crossed.ensures _ _
-        c.least_of_first-least.ensures c.least_of_changes.ensures
+    c.least_of_first-least.ensures c.least_of_changes.ensures
     ∙ ap lookahead_of setup.same

@@ -1,4 +1,4 @@
-use Rattle.std.proofs.Common.{ℕ, ◌≡◌, ◌*◌, List, map, slice_index_or, refl, ap, ◌∙◌, arith}
+use Rattle.std.proofs.Common.{◌≡◌, ◌*◌, List, map, slice_index_or, refl, ap, ◌∙◌, arith}
 use Rattle.mn_base.specs.declared.limits.TheConstants.{CORES_MAX}
 use Rattle.parcel.specs.declared.plain_boxes.PlainBox.{PlainBox}
 use Rattle.parcel.specs.PlainBoxesView.{place, idle_box}

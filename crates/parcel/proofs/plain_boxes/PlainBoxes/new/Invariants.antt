@@ -1,4 +1,4 @@
-use Rattle.std.proofs.Common.{◌≡◌, length, replicate}
+use Rattle.std.proofs.Common.{◌≡◌, replicate}
 use Rattle.parcel.specs.PlainBoxes.{bare_box}
 use Rattle.parcel.proofs.plain_boxes.PlainBoxes.new.Given as goal
 
