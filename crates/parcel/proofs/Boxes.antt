@@ -11,8 +11,8 @@ use Rattle.parcel.specs.ParcelView.{ParcelView}
 use Rattle.parcel.specs.Parcels.{IsParcel}
 use Rattle.parcel.specs.declared.plain_boxes.PlainBox.{PlainBox}
 use Rattle.parcel.specs.declared.plain_boxes.PlainBoxes.TheInside.{Inside}
-use Rattle.parcel.specs.PlainBoxesView.{BoxView, PlainBoxesView, Keeps, AreInStep, IsEmpty, IsFull, place, idle_box, box_at, posted_to, taken_from}
-use Rattle.parcel.specs.PlainBoxes.{AreBoxes, view_of, parcels_in, seen_box, bare_box}
+use Rattle.parcel.specs.PlainBoxesView.{BoxView, PlainBoxesView, Keeps, AreInStep, HasNoParcel, HasParcel, place, idle_box, box_at, posted_to, taken_from}
+use Rattle.parcel.specs.PlainBoxes.{AreBoxes, boxes_view, parcels_in, seen_box, bare_box}
 use Rattle.parcel.proofs.FewWindows.{few_windows}
 
 abbrev pub at : PlainBoxesView → ℕ → BoxView
@@ -111,14 +111,14 @@ takes_one p q from b within sets same more = record {
 -- ---- the same of the fields
 
 -- what stands at k is seen as this
-seen_at : (s : Inside) (p : PlainBoxesView) → view_of s ≡ p → (k : ℕ) (old : PlainBox) → k < length s.boxes.items
+seen_at : (s : Inside) (p : PlainBoxesView) → boxes_view s ≡ p → (k : ℕ) (old : PlainBox) → k < length s.boxes.items
     → old ≡ slice_index_or s.boxes.items k old → at p k ≡ seen_box old
 seen_at s p is k old within read =
     ap (λ (v : PlainBoxesView). at v k) (sym is) ∙ get_or-map seen_box s.boxes.items k old idle_box within ∙ ap seen_box (sym read)
 
-sets_of : (s : Inside) (p : PlainBoxesView) → view_of s ≡ p → (k : ℕ) (new : PlainBox) → k < length s.boxes.items
-    → Sets p (view_of record s { boxes = with_item s.boxes k new }) k (seen_box new)
-sets_of s p is k new within = subst (λ (v : PlainBoxesView). Sets v (view_of record s { boxes = with_item s.boxes k new }) k (seen_box new)) is record {
+sets_of : (s : Inside) (p : PlainBoxesView) → boxes_view s ≡ p → (k : ℕ) (new : PlainBox) → k < length s.boxes.items
+    → Sets p (boxes_view record s { boxes = with_item s.boxes k new }) k (seen_box new)
+sets_of s p is k new within = subst (λ (v : PlainBoxesView). Sets v (boxes_view record s { boxes = with_item s.boxes k new }) k (seen_box new)) is record {
   setup = refl;
   core = refl;
   here =
@@ -134,16 +134,16 @@ within_boxes : (s : Inside) → AreBoxes s → (sender receiver k : ℕ) → sen
     → k ≡ place sender receiver → k < length s.boxes.items
 within_boxes s are sender receiver k low also is = omega (arith, are.count, are.cores)
 
-pub posts_box : (s : Inside) (p : PlainBoxesView) → view_of s ≡ p → AreBoxes s → (to k : ℕ) → to < p.setup.cores → k ≡ place s.core to
+pub posts_box : (s : Inside) (p : PlainBoxesView) → boxes_view s ≡ p → AreBoxes s → (to k : ℕ) → to < p.setup.cores → k ≡ place s.core to
     → (old : PlainBox) → old ≡ slice_index_or s.boxes.items k old → is_some old.parcel ≡ false → (new : ParcelView)
-    → Posts p (view_of record s { boxes = with_item s.boxes k record { taken = old.taken; parcel = Some new } }) to
+    → Posts p (boxes_view record s { boxes = with_item s.boxes k record { taken = old.taken; parcel = Some new } }) to
 posts_box s p is are to k known at_k old read free new =
     let low : to < s.setup.now.cores = subst (λ (v : PlainBoxesView). to < v.setup.cores) (sym is) known in
     let within : k < length s.boxes.items = within_boxes s are s.core to k are.core low at_k in
     let core : s.core ≡ p.core = ap (λ (v : PlainBoxesView). v.core) is in
     let here : k ≡ place p.core to = at_k ∙ ap (λ (n : ℕ). place n to) core in
     let fresh : PlainBox = record { taken = old.taken; parcel = Some new } in
-    let after : PlainBoxesView = view_of record s { boxes = with_item s.boxes k fresh } in
+    let after : PlainBoxesView = boxes_view record s { boxes = with_item s.boxes k fresh } in
     let seen : box_at p p.core to ≡ seen_box old = subst (λ (n : ℕ). at p n ≡ seen_box old) here (seen_at s p is k old within read) in
     let none_there : parcels_in old.parcel ≡ 0 = ap parcels_in (none old.parcel free) in
     let posted : posted_to p to ≡ old.taken + parcels_in old.parcel = ap (λ (b : BoxView). b.posted) seen in
@@ -156,17 +156,17 @@ posts_box s p is are to k known at_k old read free new =
     none None free = refl
     none (Some x) free = cc
 
-pub takes_box : (s : Inside) (p : PlainBoxesView) → view_of s ≡ p → AreBoxes s → (from k : ℕ) → from < p.setup.cores → k ≡ place from s.core
+pub takes_box : (s : Inside) (p : PlainBoxesView) → boxes_view s ≡ p → AreBoxes s → (from k : ℕ) → from < p.setup.cores → k ≡ place from s.core
     → (old : PlainBox) → old ≡ slice_index_or s.boxes.items k old → (given : ParcelView) → old.parcel ≡ Some given
     → (rest : Option ParcelView) → rest ≡ None
-    → Takes p (view_of record s { boxes = with_item s.boxes k record { taken = old.taken + 1; parcel = rest } }) from
+    → Takes p (boxes_view record s { boxes = with_item s.boxes k record { taken = old.taken + 1; parcel = rest } }) from
 takes_box s p is are from k known at_k old read given full rest bare =
     let low : from < s.setup.now.cores = subst (λ (v : PlainBoxesView). from < v.setup.cores) (sym is) known in
     let within : k < length s.boxes.items = within_boxes s are from s.core k low are.core at_k in
     let core : s.core ≡ p.core = ap (λ (v : PlainBoxesView). v.core) is in
     let here : k ≡ place from p.core = at_k ∙ ap (λ (n : ℕ). place from n) core in
     let new : PlainBox = record { taken = old.taken + 1; parcel = rest } in
-    let after : PlainBoxesView = view_of record s { boxes = with_item s.boxes k new } in
+    let after : PlainBoxesView = boxes_view record s { boxes = with_item s.boxes k new } in
     let seen : box_at p from p.core ≡ seen_box old = subst (λ (n : ℕ). at p n ≡ seen_box old) here (seen_at s p is k old within read) in
     let one_there : parcels_in old.parcel ≡ 1 = ap parcels_in full in
     let none_left : parcels_in rest ≡ 0 = ap parcels_in bare in
@@ -177,7 +177,7 @@ takes_box s p is are from k known at_k old read given full rest bare =
     (ap (λ (b : BoxView). b.taken + 1) (sym seen))
 
 -- the parcel in a box is that of the number to be taken
-pub parcel_in : (s : Inside) (p : PlainBoxesView) → view_of s ≡ p → AreBoxes s → (from k : ℕ) → from < p.setup.cores → k ≡ place from s.core
+pub parcel_in : (s : Inside) (p : PlainBoxesView) → boxes_view s ≡ p → AreBoxes s → (from k : ℕ) → from < p.setup.cores → k ≡ place from s.core
     → (old : PlainBox) → old ≡ slice_index_or s.boxes.items k old → (given : ParcelView) → old.parcel ≡ Some given
     → IsParcel p.setup from p.core (taken_from p from) given
 parcel_in s p is are from k known at_k old read given full =
@@ -188,15 +188,15 @@ parcel_in s p is are from k known at_k old read given full =
     let parcel = are.parcels from s.core given (omega (arith, are.cores, are.core)) (ap (λ (b : PlainBox). b.parcel) there ∙ full) in
     let numbered : IsParcel s.setup.now from s.core old.taken given =
     subst (λ (b : PlainBox). IsParcel s.setup.now from s.core b.taken given) there parcel in
-    let seen : taken_from (view_of s) from ≡ old.taken =
-    ap (λ (b : BoxView). b.taken) (subst (λ (n : ℕ). at (view_of s) n ≡ seen_box old) at_k (seen_at s (view_of s) refl k old within read)) in
+    let seen : taken_from (boxes_view s) from ≡ old.taken =
+    ap (λ (b : BoxView). b.taken) (subst (λ (n : ℕ). at (boxes_view s) n ≡ seen_box old) at_k (seen_at s (boxes_view s) refl k old within read)) in
     subst (λ (v : PlainBoxesView). IsParcel v.setup from v.core (taken_from v from) given) is
     (subst (λ (n : ℕ). IsParcel s.setup.now from s.core n given) (sym seen) numbered)
 
 -- ---- each box is in step
 
 one_in_step : (xs : List PlainBox) (k : ℕ)
-    → IsEmpty (slice_index_or (map seen_box xs) k idle_box) ⊎ IsFull (slice_index_or (map seen_box xs) k idle_box)
+    → HasNoParcel (slice_index_or (map seen_box xs) k idle_box) ⊎ HasParcel (slice_index_or (map seen_box xs) k idle_box)
 one_in_step [] k = inl refl
 one_in_step (x ∷ xs) zero = go x.parcel
   where
@@ -205,7 +205,7 @@ one_in_step (x ∷ xs) zero = go x.parcel
     go (Some p) = inr refl
 one_in_step (x ∷ xs) (suc k) = one_in_step xs k
 
-pub in_step : (s : Inside) → AreInStep (view_of s)
+pub in_step : (s : Inside) → AreInStep (boxes_view s)
 in_step s sender receiver = one_in_step s.boxes.items (place sender receiver)
 
 -- ---- the first boxes
@@ -288,7 +288,7 @@ some-one a b e = cc
 none-some : (o : Option ParcelView) (p : ParcelView) → o ≡ None → o ≡ Some p → ⊥
 none-some o p a b = cc
 
-module _ (s : Inside) (p : PlainBoxesView) (is : view_of s ≡ p) (are : AreBoxes s) where
+module _ (s : Inside) (p : PlainBoxesView) (is : boxes_view s ≡ p) (are : AreBoxes s) where
   -- a box without a parcel
   pub bare_kept : (from k n : ℕ) → from < p.setup.cores → k ≡ place from s.core → (rest : Option ParcelView) → rest ≡ None
       → AreBoxes record s { boxes = with_item s.boxes k record { taken = n; parcel = rest } }
@@ -327,15 +327,15 @@ module _ (s : Inside) (p : PlainBoxesView) (is : view_of s ≡ p) (are : AreBoxe
         none None free = refl
         none (Some x) free = cc
 
-        numbered : IsParcel s.setup.now s.core to (posted_to (view_of s) to) new
+        numbered : IsParcel s.setup.now s.core to (posted_to (boxes_view s) to) new
         numbered = subst (λ (v : PlainBoxesView). IsParcel v.setup v.core to (posted_to v to) new) (sym is) parcel
 
-        seen : box_at (view_of s) s.core to ≡ seen_box old
-        seen = subst (λ (n : ℕ). at (view_of s) n ≡ seen_box old) at_k (seen_at s (view_of s) refl k old within-to read)
+        seen : box_at (boxes_view s) s.core to ≡ seen_box old
+        seen = subst (λ (n : ℕ). at (boxes_view s) n ≡ seen_box old) at_k (seen_at s (boxes_view s) refl k old within-to read)
 
-        posted : posted_to (view_of s) to ≡ old.taken
+        posted : posted_to (boxes_view s) to ≡ old.taken
         posted =
-            let e : posted_to (view_of s) to ≡ old.taken + parcels_in old.parcel = ap (λ (b : BoxView). b.posted) seen in
+            let e : posted_to (boxes_view s) to ≡ old.taken + parcels_in old.parcel = ap (λ (b : BoxView). b.posted) seen in
             let n = none old.parcel free in omega (arith, e, n)
 
         holds : (q : ParcelView) → Some new ≡ Some q → IsParcel s.setup.now s.core to old.taken q

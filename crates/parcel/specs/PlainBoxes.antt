@@ -17,8 +17,8 @@ parcels_in (Some p) = 1
 abbrev pub seen_box : PlainBox → BoxView
 seen_box b = record { posted = b.taken + parcels_in b.parcel; taken = b.taken }
 
-abbrev pub view_of : Inside → PlainBoxesView
-view_of s = record { setup = s.setup.now; core = s.core; boxes = map seen_box s.boxes.items }
+abbrev pub boxes_view : Inside → PlainBoxesView
+boxes_view s = record { setup = s.setup.now; core = s.core; boxes = map seen_box s.boxes.items }
 
 abbrev pub bare_box : PlainBox
 bare_box = record { taken = 0; parcel = None }

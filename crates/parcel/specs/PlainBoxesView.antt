@@ -33,15 +33,15 @@ abbrev pub taken_from : PlainBoxesView → ℕ → ℕ
 taken_from v sender = (box_at v sender v.core).taken
 
 -- a parcel is in the box
-abbrev pub IsFull : BoxView → Type 0
-IsFull b = b.posted ≡ b.taken + 1
+abbrev pub HasParcel : BoxView → Type 0
+HasParcel b = b.posted ≡ b.taken + 1
 
-abbrev pub IsEmpty : BoxView → Type 0
-IsEmpty b = b.posted ≡ b.taken
+abbrev pub HasNoParcel : BoxView → Type 0
+HasNoParcel b = b.posted ≡ b.taken
 
 -- each box is empty or full
 abbrev pub AreInStep : PlainBoxesView → Type 0
-AreInStep v = (sender receiver : ℕ) → IsEmpty (box_at v sender receiver) ⊎ IsFull (box_at v sender receiver)
+AreInStep v = (sender receiver : ℕ) → HasNoParcel (box_at v sender receiver) ⊎ HasParcel (box_at v sender receiver)
 
 -- what happens while one core is served: the numbers of every other core stay as they were, and those of this core don't fall
 pub record Keeps (p q : PlainBoxesView) : Type 0 where
@@ -56,8 +56,8 @@ pub record Keeps (p q : PlainBoxesView) : Type 0 where
 
 -- the box to a core was full
 abbrev pub WasFull : PlainBoxesView → ℕ → PlainBoxesView → Type 0
-WasFull p receiver q = IsFull (box_at p p.core receiver)
+WasFull p receiver q = HasParcel (box_at p p.core receiver)
 
 -- the box from a core was empty
 abbrev pub WasEmpty : PlainBoxesView → ℕ → PlainBoxesView → Type 0
-WasEmpty p sender q = IsEmpty (box_at p sender p.core)
+WasEmpty p sender q = HasNoParcel (box_at p sender p.core)

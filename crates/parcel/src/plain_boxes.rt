@@ -1,7 +1,7 @@
 ghost use Rattle.std.specs.Prelude.{◌≡◌, ◌≢◌, ◌⊎◌, ℕ, ◌+◌, ◌-◌, ◌*◌, ◌<◌, ◌≤◌, OnOk, OnErr, IfOk, IfErr};
 ghost use Rattle.parcel.specs.Windows.{window_count};
 ghost use Rattle.parcel.specs.Parcels.{IsParcel};
-ghost use Rattle.parcel.specs.PlainBoxesView.{Keeps, AreInStep, IsEmpty, IsFull, box_at, idle_box, posted_to, taken_from};
+ghost use Rattle.parcel.specs.PlainBoxesView.{Keeps, AreInStep, HasNoParcel, HasParcel, box_at, idle_box, posted_to, taken_from};
 
 use crate::parcel::Parcel;
 use crate::ports::{Busy, Empty, Ports};
@@ -38,9 +38,9 @@ impl<'s> Model for PlainBoxes<'s> {
 
     ghost Value = { PlainBoxesView };
 
-    ghost use Rattle.parcel.specs.PlainBoxes.{view_of, AreBoxes};
+    ghost use Rattle.parcel.specs.PlainBoxes.{boxes_view, AreBoxes};
 
-    ghost view = { view_of };
+    ghost view = { boxes_view };
 
     ghost invariant = { AreBoxes };
 }
@@ -129,14 +129,14 @@ impl<'s> Ports for PlainBoxes<'s> {
         ensures err { OnErr result (posted_to self.new to ≡ posted_to self.old to) }
         ensures others { (j : ℕ) → j ≢ to → posted_to self.new j ≡ posted_to self.old j }
         ensures taken { (j : ℕ) → taken_from self.new j ≡ taken_from self.old j }
-        ensures busy { OnErr result (IsFull (box_at self.old self.old.core to)) }
+        ensures busy { OnErr result (HasParcel (box_at self.old self.old.core to)) }
         ensures parcel { IfErr result (λ busy. busy.parcel ≡ parcel) }
         ensures posted_before { OnErr result (0 < posted_to self.old to) }
         ensures seen { IfErr result (λ busy. (busy.seen ≡ 4 * (posted_to self.old to - 1) + 2)
             ⊎ (busy.seen ≡ 4 * (posted_to self.old to - 1) + 3)) }
 
         // Of these boxes it is known, too: it is posted where the box is empty, and all the state is told.
-        ensures free { OnOk result (IsEmpty (box_at self.old self.old.core to)) }
+        ensures free { OnOk result (HasNoParcel (box_at self.old self.old.core to)) }
         ensures same { OnErr result (self.new ≡ self.old) }
         ensures word { IfErr result (λ busy. busy.seen ≡ 4 * (box_at self.old self.old.core to).taken + 2) }
     {
@@ -165,11 +165,11 @@ impl<'s> Ports for PlainBoxes<'s> {
         ensures err { OnErr result (taken_from self.new from ≡ taken_from self.old from) }
         ensures others { (j : ℕ) → j ≢ from → taken_from self.new j ≡ taken_from self.old j }
         ensures posted { (j : ℕ) → posted_to self.new j ≡ posted_to self.old j }
-        ensures empty { OnErr result (IsEmpty (box_at self.old from self.old.core)) }
+        ensures empty { OnErr result (HasNoParcel (box_at self.old from self.old.core)) }
         ensures seen { IfErr result (λ empty. empty.seen < 4 * taken_from self.old from + 2) }
 
         // Of these boxes it is known, too: it is taken where the box is full, and all the state is told.
-        ensures full { OnOk result (IsFull (box_at self.old from self.old.core)) }
+        ensures full { OnOk result (HasParcel (box_at self.old from self.old.core)) }
         ensures same { OnErr result (self.new ≡ self.old) }
         ensures word { IfErr result (λ empty. empty.seen ≡ 4 * taken_from self.old from) }
     {

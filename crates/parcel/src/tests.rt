@@ -17,10 +17,26 @@ macro_rules! pipe {
     };
 }
 
+/// A packet of 1,000 bytes that enters at core 0 at tick 0.
+macro_rules! packet {
+    ($number:expr, $route:expr) => {
+        PacketPlan {
+            entry_tick: 0,
+            number: $number,
+            len: 1000,
+            route: $route,
+            core: 0,
+        }
+    };
+}
+
 /// The setup of so many cores, with pipes of these latencies in ticks, owners, routes and changes (a pipe, and its latency from
 /// tick 1,000 on). One packet enters for each of the packets' routes.
 macro_rules! setup {
-    ($rt:expr, $cores:expr, [$($ticks:expr),*], [$($owner:expr),*], [$([$($hop:expr),*]),*], [$($number:expr => $route:expr),*], [$($pipe:expr => $then:expr),*]) => {
+    (
+        $rt:expr, $cores:expr, [$($ticks:expr),*], [$($owner:expr),*], [$([$($hop:expr),*]),*],
+        [$($number:expr => $route:expr),*], [$($pipe:expr => $then:expr),*]
+    ) => {
         Setup::new(SetupParts {
             tick_ns: 100_000,
             seed: 0,
@@ -30,7 +46,7 @@ macro_rules! setup {
             pipes: vec![in $rt.alloc(); $(pipe!($ticks)),*]?,
             owners: vec![in $rt.alloc(); $($owner),*]?,
             routes: vec![in $rt.alloc(); $(vec![in $rt.alloc(); $($hop),*]?),*]?,
-            packets: vec![in $rt.alloc(); $(PacketPlan { entry_tick: 0, number: $number, len: 1000, route: $route, core: 0 }),*]?,
+            packets: vec![in $rt.alloc(); $(packet!($number, $route)),*]?,
             changes: vec![in $rt.alloc(); $(PipeChange { tick: 1000, pipe: $pipe, params: pipe!($then) }),*]?,
             loss: LossBy::Packet,
         })
