@@ -1,7 +1,10 @@
+ghost use Rattle.std.specs.Prelude.{◌≤◌, All};
+
 use super::*;
 use mn_base::limits::KEEP_MAX;
-use mn_base::{Cause, PipeParams};
+use mn_base::{Cause, NoMemory, PipeParams};
 use pipe::Step;
+use std::alloc::Global;
 use std::process::Abort;
 use std::test::Fail;
 
@@ -12,23 +15,6 @@ const USUAL: PipeParams = PipeParams {
     latency_ticks: 50,
     queue: 50,
     keep: KEEP_MAX,
-};
-
-/// The only packets that wait or transmit: one.
-const NARROW: PipeParams = PipeParams {
-    bps: 8_000_000,
-    latency_us: 5_000,
-    latency_ticks: 50,
-    queue: 1,
-    keep: KEEP_MAX,
-};
-
-const ALL_LOST: PipeParams = PipeParams {
-    bps: 8_000_000,
-    latency_us: 5_000,
-    latency_ticks: 50,
-    queue: 50,
-    keep: 0,
 };
 
 /// Of 2^32 loss words half lose.
@@ -64,18 +50,18 @@ macro_rules! packet {
 
 /// The setup of these pipes, owners, routes, packets and changes, at one core, for ticks of 100,000 ns, with seed 16.
 macro_rules! setup {
-    ($rt:expr, $loss:expr, [$($pipe:expr),*], [$($owner:expr),*], [$([$($hop:expr),*]),*], [$($packet:expr),*], [$($change:expr),*]) => {
+    ($alloc:expr, $loss:expr, [$($pipe:expr),*], [$($owner:expr),*], [$([$($hop:expr),*]),*], [$($packet:expr),*], [$($change:expr),*]) => {
         Setup::new(SetupParts {
             tick_ns: 100_000,
             seed: 16,
             base_ns: 0,
             link_type: 101,
             cores: 1,
-            pipes: vec![in $rt.alloc(); $($pipe),*]?,
-            owners: vec![in $rt.alloc(); $($owner),*]?,
-            routes: vec![in $rt.alloc(); $(vec![in $rt.alloc(); $($hop),*]?),*]?,
-            packets: vec![in $rt.alloc(); $($packet),*]?,
-            changes: vec![in $rt.alloc(); $($change),*]?,
+            pipes: vec![in $alloc; $($pipe),*]?,
+            owners: vec![in $alloc; $($owner),*]?,
+            routes: vec![in $alloc; $(vec![in $alloc; $($hop),*]?),*]?,
+            packets: vec![in $alloc; $($packet),*]?,
+            changes: vec![in $alloc; $($change),*]?,
             loss: $loss,
         })
     };
@@ -99,7 +85,7 @@ fn may_move_to_a_thread<T: Send>(_value: &T) {}
 #[test]
 fn a_setup_has_its_parts_and_finds_its_packets(rt: HostRuntime) -> Result<(), Fail> {
     let setup = setup!(
-        rt,
+        rt.alloc(),
         LossBy::Packet,
         [USUAL],
         [0],
@@ -112,6 +98,8 @@ fn a_setup_has_its_parts_and_finds_its_packets(rt: HostRuntime) -> Result<(), Fa
         []
     );
     may_move_to_threads_and_be_shared(&setup);
+    may_move_to_a_thread(&steps::idle_pipe(rt.alloc(), &setup, 0)?);
+    assert_eq!(rt; steps::idle_pipes(rt.alloc(), &setup)?.len(), 1);
     assert_eq!(rt; setup.parts().seed, 16);
     assert_eq!(rt; setup.parts().packets.len(), 3);
     assert_eq!(rt; setup.find(0).map(|packet| packet.entry_tick), Some(4));
@@ -122,74 +110,12 @@ fn a_setup_has_its_parts_and_finds_its_packets(rt: HostRuntime) -> Result<(), Fa
     Ok(())
 }
 
-#[test]
-fn a_pipe_at_work_may_move_to_a_thread(rt: HostRuntime) -> Result<(), Fail> {
-    let setup = setup!(
-        rt,
-        LossBy::Packet,
-        [USUAL],
-        [0],
-        [[0]],
-        [packet!(0, 0, 0, 0)],
-        []
-    );
-    may_move_to_a_thread(&steps::idle_pipe(rt.alloc(), &setup, 0)?);
-    Ok(())
-}
-
-#[test]
-fn a_packet_waits_for_the_one_before(rt: HostRuntime) -> Result<(), Fail> {
-    let setup = setup!(
-        rt,
-        LossBy::Packet,
-        [USUAL],
-        [0],
-        [[0]],
-        [packet!(0, 0, 1_000, 0), packet!(1, 0, 1_000, 0)],
-        []
-    );
-    let fates = fates(rt.alloc(), &setup)?;
-    assert_eq!(rt;
-        fates.as_slice(),
-        [Fate::Left { tick: 60 }, Fate::Left { tick: 70 }].as_slice()
-    );
-    Ok(())
-}
-
-#[test]
-fn a_finish_at_the_tick_of_a_visit_leaves_the_queue(rt: HostRuntime) -> Result<(), Fail> {
-    let setup = setup!(
-        rt,
-        LossBy::Packet,
-        [NARROW],
-        [0],
-        [[0]],
-        [
-            packet!(0, 0, 1_000, 0),
-            packet!(1, 9, 1_000, 0),
-            packet!(2, 10, 1_000, 0)
-        ],
-        []
-    );
-    let dropped = Fate::Dropped {
-        pipe: 0,
-        tick: 9,
-        cause: Cause::Full,
-    };
-    let fates = fates(rt.alloc(), &setup)?;
-    assert_eq!(rt;
-        fates.as_slice(),
-        [Fate::Left { tick: 60 }, dropped, Fate::Left { tick: 70 }].as_slice()
-    );
-    Ok(())
-}
-
 /// At tick 5 the pipe becomes ten times as fast. Packet 1 waits for packet 0, which finishes at 10; it is through at 11 and leaves
 /// after the new latency of 10 ticks, before packet 0 does.
 #[test]
 fn parameters_change_while_a_packet_waits(rt: HostRuntime) -> Result<(), Fail> {
     let setup = setup!(
-        rt,
+        rt.alloc(),
         LossBy::Packet,
         [USUAL],
         [0],
@@ -218,37 +144,32 @@ fn parameters_change_while_a_packet_waits(rt: HostRuntime) -> Result<(), Fail> {
     Ok(())
 }
 
+/// Four packets of 1,000 bytes, which enter one lossy pipe at these ticks; loss words are numbered by arrival.
+fn four_packets(alloc: Global, ticks: [u64; 4]) -> Result<Setup, NoMemory>
+    requires { All (λ tick. tick ≤ 300) ticks }
+{
+    let [first, second, third, fourth] = ticks;
+    Ok(setup!(
+        alloc,
+        LossBy::Arrival,
+        [HALF_LOST],
+        [0],
+        [[0]],
+        [
+            packet!(0, first, 1_000, 0),
+            packet!(1, second, 1_000, 0),
+            packet!(2, third, 1_000, 0),
+            packet!(3, fourth, 1_000, 0)
+        ],
+        []
+    ))
+}
+
 /// The same records in another order in the file have other numbers. By arrival each tick has the same fate.
 #[test]
 fn by_arrival_the_order_of_the_file_does_not_count(rt: HostRuntime) -> Result<(), Fail> {
-    let forth = setup!(
-        rt,
-        LossBy::Arrival,
-        [HALF_LOST],
-        [0],
-        [[0]],
-        [
-            packet!(0, 0, 1_000, 0),
-            packet!(1, 100, 1_000, 0),
-            packet!(2, 200, 1_000, 0),
-            packet!(3, 300, 1_000, 0)
-        ],
-        []
-    );
-    let back = setup!(
-        rt,
-        LossBy::Arrival,
-        [HALF_LOST],
-        [0],
-        [[0]],
-        [
-            packet!(0, 300, 1_000, 0),
-            packet!(1, 200, 1_000, 0),
-            packet!(2, 100, 1_000, 0),
-            packet!(3, 0, 1_000, 0)
-        ],
-        []
-    );
+    let forth = four_packets(rt.alloc(), [0, 100, 200, 300])?;
+    let back = four_packets(rt.alloc(), [300, 200, 100, 0])?;
     let there = fates(rt.alloc(), &forth)?;
     let here = fates(rt.alloc(), &back)?;
     assert_eq!(rt; there.len(), 4);
@@ -264,42 +185,12 @@ fn by_arrival_the_order_of_the_file_does_not_count(rt: HostRuntime) -> Result<()
     Ok(())
 }
 
-#[test]
-fn the_second_pipe_of_a_route_drops_at_the_exit_of_the_first(rt: HostRuntime) -> Result<(), Fail> {
-    let setup = setup!(
-        rt,
-        LossBy::Packet,
-        [USUAL, ALL_LOST],
-        [0, 0],
-        [[0, 1]],
-        [packet!(0, 0, 1_000, 0)],
-        []
-    );
-    let visits = journal(rt.alloc(), &setup)?;
-    assert_visits(
-        &rt,
-        &visits,
-        &[
-            (0, 0, 0, 0, Step::Pass { exit: 60 }),
-            (60, 0, 1, 1, Step::Lost),
-        ],
-    );
-    let dropped = Fate::Dropped {
-        pipe: 1,
-        tick: 60,
-        cause: Cause::Loss,
-    };
-    let fates = fates(rt.alloc(), &setup)?;
-    assert_eq!(rt; fates.as_slice(), [dropped].as_slice());
-    Ok(())
-}
-
 /// Two packets come to one pipe at tick 60, over a pipe each, and a third enters there at that tick. By their numbers, 3 goes
 /// first, then 5, then 10, which is empty and waits for both. Packet 9 has no pipes to pass.
 #[test]
 fn packets_of_one_tick_go_by_their_numbers(rt: HostRuntime) -> Result<(), Fail> {
     let setup = setup!(
-        rt,
+        rt.alloc(),
         LossBy::Packet,
         [USUAL, USUAL, USUAL],
         [0, 0, 0],
@@ -337,7 +228,7 @@ fn packets_of_one_tick_go_by_their_numbers(rt: HostRuntime) -> Result<(), Fail> 
 #[test]
 fn a_journal_of_many_routes_is_that_of_a_plain_program(rt: HostRuntime) -> Result<(), Fail> {
     let setup = setup!(
-        rt,
+        rt.alloc(),
         LossBy::Packet,
         [
             PipeParams {
