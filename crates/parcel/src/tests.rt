@@ -4,8 +4,8 @@ use mn_base::limits::KEEP_MAX;
 use mn_base::{Bytes, Cause, PipeParams};
 use std::test::Fail;
 
-/// A pipe of this latency in ticks of 100,000 ns.
-macro_rules! pipe {
+/// The parameters of a pipe of this latency in ticks of 100,000 ns.
+macro_rules! params {
     ($ticks:expr) => {
         PipeParams {
             bps: 8_000_000,
@@ -43,11 +43,11 @@ macro_rules! setup {
             base_ns: 0,
             link_type: 101,
             cores: $cores,
-            pipes: vec![in $rt.alloc(); $(pipe!($ticks)),*]?,
+            pipes: vec![in $rt.alloc(); $(params!($ticks)),*]?,
             owners: vec![in $rt.alloc(); $($owner),*]?,
             routes: vec![in $rt.alloc(); $(vec![in $rt.alloc(); $($hop),*]?),*]?,
             packets: vec![in $rt.alloc(); $(packet!($number, $route)),*]?,
-            changes: vec![in $rt.alloc(); $(PipeChange { tick: 1000, pipe: $pipe, params: pipe!($then) }),*]?,
+            changes: vec![in $rt.alloc(); $(PipeChange { tick: 1000, pipe: $pipe, params: params!($then) }),*]?,
             loss: LossBy::Packet,
         })
     };
