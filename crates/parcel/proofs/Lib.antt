@@ -10,6 +10,8 @@ pub mod NoPackets
 pub mod Notes
 pub mod Origins
 pub mod PipeSets
+pub mod Running
 pub mod Sending
 pub mod Starts
+pub mod Taking
 pub mod WindowLaws

@@ -18,7 +18,7 @@ use Rattle.journal.proofs.Meets.{meets}
 use Rattle.parcel.proofs.Lookaheads.{least_is_lookahead}
 use Rattle.parcel.proofs.Starts.{AreSpaced, ended, TicksRise, starts-spaced, start-apart, ended-in, ended-past, ended-rises, covered, start-visit}
 
-ticks-rise : (S : SetupView) (J : List Visit) → Rises (scheme_of S) J → TicksRise J
+pub ticks-rise : (S : SetupView) (J : List Visit) → Rises (scheme_of S) J → TicksRise J
 ticks-rise S [] r = tt
 ticks-rise S (v ∷ J) r = (λ w a. before-tick (due_of v) (due_of w) (r.0 w a), ticks-rise S J r.1)
 
