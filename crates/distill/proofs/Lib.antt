@@ -8,6 +8,7 @@ pub mod MadePipes
 pub mod MeshPairs
 pub mod MeshRows
 pub mod Narrowest
+pub mod OneDistilled
 pub mod PartsSound
 pub mod PipeCounts
 pub mod SortedMesh

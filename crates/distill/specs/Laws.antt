@@ -1,5 +1,5 @@
--- What follows of the definitions: there is one number of pipes, and the link that decides bandwidth and queue limit is the first of least
--- bandwidth.
+-- What follows of the definitions: there is one distilled topology and one number of pipes, and the link that decides bandwidth and queue
+-- limit is the first of least bandwidth.
 use Rattle.std.specs.Prelude.{◌≡◌, ℕ, ◌<◌, ◌≤◌, List, ◌∷◌, ◌++◌, length}
 use Rattle.mn_base.specs.Among.{Among}
 use Rattle.topo.specs.declared.parts.Link.{Link}
@@ -8,6 +8,11 @@ use Rattle.distill.specs.declared.modes.Mode.{Mode}
 use Rattle.distill.specs.Combination.{narrowest}
 use Rattle.distill.specs.Distilled.{DistilledView, IsDistilled}
 use Rattle.distill.specs.PipeCount.{HasPipeCount}
+
+-- a topology has one distilled topology in a mode
+abbrev pub OneDistilled : Type 0
+OneDistilled = (t : TopologyView) (mode : Mode) (tick_ns : ℕ) (d e : DistilledView)
+    → IsDistilled t mode tick_ns d → IsDistilled t mode tick_ns e → d ≡ e
 
 -- a topology has one number of pipes in a mode
 abbrev pub OnePipeCount : Type 0
