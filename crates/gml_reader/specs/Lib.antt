@@ -1,3 +1,4 @@
+pub mod FaultTexts
 pub mod Grammar
 pub mod Laws
 pub mod Places

@@ -4,6 +4,7 @@
 #![tactic(auto)]
 
 mod bytes;
+mod fault_texts;
 mod faults;
 mod grammar;
 mod graph;
