@@ -1,12 +1,13 @@
 #!/bin/bash
-# Refuses each allocation in turn, 1, 2, 3 .., until a run needs no more: of `chain`, or of the tests of a crate.
+# Refuses each allocation in turn, 1, 2, 3 .., until a run needs no more: of `chain` and `distill`, or of the tests of a crate.
 #
-# usage: bench/memory.sh                      `chain` on the stored trace and on 60 packets over 3 pipes; some seconds
+# usage: bench/memory.sh                      `chain` on the stored trace and on 60 packets over 3 pipes, `distill` on a ring of 12
+#                                             nodes in three modes; some seconds
 #        bench/memory.sh CRATE [LAST]         each test of that crate, up to its allocation LAST (1,000); some seconds to minutes
 #
-# `chain` is the built program (MODELNET names another than crates/modelnet/out/modelnet), and the tests are crates/CRATE/out/CRATE_tests,
+# The commands are the built program's (MODELNET names another than crates/modelnet/out/modelnet), and the tests are crates/CRATE/out/CRATE_tests,
 # which `rt test` leaves there. A few lines of C in front of malloc and realloc refuse the Nth call, or that one and all after it.
-# A refused run of `chain` has to end in one of these ways:
+# A refused run of a command has to end in one of these ways:
 #   status 1 and `modelnet: no memory`, or no line where the line finds no memory either; no output was begun
 #   status 6 or 7 and its line, where the host found no memory for a kept name; the outputs before that role are whole, and
 #   that role has a front of its text
@@ -62,6 +63,44 @@ sweep() {
         fi
     done
     if [ "$status" != 0 ] || ! out_is_whole || ! report_is_whole; then
+        echo "$name: a run with all its memory ended with status $status" >&2
+        wrong=1
+    fi
+    echo "$name: $((number - 1)) allocations refused"
+    sort "$folder/ends" | uniq -c
+}
+
+# usage: pipes_allowed STATUS LINE: a refused run of `distill` may end so, and may have printed what it printed
+pipes_allowed() {
+    case "$1 $2" in
+        "0 ") cmp -s "$folder/screen" "$folder/whole.screen" ;;
+        "1 " | "1 modelnet: no memory" | "6 modelnet: cannot read topology") [ ! -s "$folder/screen" ] ;;
+        "7 modelnet: cannot write screen") front "$folder/screen" "$folder/whole.screen" ;;
+        "6 ") [ "$REFUSE_FROM" = 1 ] && [ ! -s "$folder/screen" ] ;;
+        "7 ") [ "$REFUSE_FROM" = 1 ] && front "$folder/screen" "$folder/whole.screen" ;;
+        *) false ;;
+    esac
+}
+
+# usage: sweep_distill NAME MODE: refuses each allocation of `distill` in turn
+sweep_distill() {
+    local name=$1 number=0 status line
+    local words=(distill --topology "$folder/ring.gml" "--mode=$2")
+    "$binary" "${words[@]}" >"$folder/whole.screen"
+    : >"$folder/ends"
+    while true; do
+        number=$((number + 1))
+        status=0
+        LD_PRELOAD=$folder/refuse.so REFUSE=$number "$binary" "${words[@]}" 2>"$folder/line" 9>"$folder/refused" >"$folder/screen" || status=$?
+        [ -s "$folder/refused" ] || break
+        line=$(cat "$folder/line")
+        echo "status $status, ${line:-no line}" >>"$folder/ends"
+        if ! pipes_allowed "$status" "$line"; then
+            echo "$name: allocation $number: status $status, '$line'" >&2
+            wrong=1
+        fi
+    done
+    if [ "$status" != 0 ] || ! cmp -s "$folder/screen" "$folder/whole.screen"; then
         echo "$name: a run with all its memory ended with status $status" >&2
         wrong=1
     fi
@@ -139,10 +178,26 @@ with open(sys.argv[1], "wb") as out:
         out.write(bytes([number] * 40))
 PY
 
+# A ring of 12 nodes, every third with an address.
+python3 - "$folder/ring.gml" <<'PY'
+import sys
+
+with open(sys.argv[1], "w") as out:
+    out.write("graph [\n")
+    for node in range(12):
+        out.write(f' node [ id {node}' + (f' address "10.0.0.{node}"' if node % 3 == 0 else "") + " ]\n")
+    for node in range(12):
+        out.write(f" edge [ source {node} target {(node + 1) % 12} bandwidth 8000000 latency {100 + node} ]\n")
+    out.write("]\n")
+PY
+
 for REFUSE_FROM in 0 1; do
     export REFUSE_FROM
     [ "$REFUSE_FROM" = 0 ] && how="one refused" || how="all refused from one on"
     sweep "one packet, $how" "$here/crates/modelnet/data/in.pcap" 8000000:5000:50:0
     sweep "60 packets, $how" "$folder/in.pcap" 8000000:50:8:0 100000000:300:50:100000 8000000:5000:3:0
+    sweep_distill "a ring walked in, $how" walk:1
+    sweep_distill "a ring end to end, $how" end
+    sweep_distill "a ring walked out, $how" walk:1:1
 done
 exit "$wrong"

@@ -16,8 +16,8 @@ use Rattle.journal.specs.declared.setup.PacketPlan.{PacketPlan}
 use Rattle.journal.specs.SetupView.{SetupView}
 use Rattle.journal.specs.IsSetup.{IsSetup, longest_way}
 use Rattle.journal.proofs.UsualDelays.{usual_delays_fit}
-use Rattle.modelnet.specs.declared.order.PipeSpec.{PipeSpec}
-use Rattle.modelnet.specs.Order.{ChainView, IsOrder}
+use Rattle.mn_words.specs.declared.order.PipeSpec.{PipeSpec}
+use Rattle.mn_words.specs.Order.{ChainView, IsChainOrder}
 use Rattle.modelnet.specs.Chain.{IsPipeOf, IsChainSetup, plan_of, plans_of}
 
 pub All-one : {X : Type 0} (P : X → Type 0) (x : X) → P x → All P (x ∷ [])
@@ -80,7 +80,7 @@ usual_latencies tick_ns (pipe ∷ pipes) (p ∷ params) same =
 
 -- the conditions, one by one
 
-pub is_setup : (order : ChainView) (trace : Capture) (S : SetupView) → IsOrder order → IsTrace trace
+pub is_setup : (order : ChainView) (trace : Capture) (S : SetupView) → IsChainOrder order → IsTrace trace
     → All (λ p. IsRecordTime p.time_ns) trace.packets → IsChainSetup order trace S → IsSetup S
 is_setup order trace S o t times c = record {
   tick = rw c.tick_ns o.tick;

@@ -3,7 +3,7 @@ use Rattle.std.proofs.Common.{◌≡◌, ◌≢◌, ◌≤◌, ◌⊎◌, ℕ, L
 use Rattle.mn_edge.specs.declared.role.Role.{Role}
 use Rattle.mn_edge.specs.Part.{Part}
 use Rattle.modelnet.specs.declared.status.Status.{Status}
-use Rattle.modelnet.specs.declared.status.Status.TheVariants.{Done, NoMemory, BadWords, BadTrace, ReadFault, WriteFault, TooLarge, BadCapture}
+use Rattle.modelnet.specs.declared.status.Status.TheVariants.{Done, NoMemory, BadWords, BadTopology, BadTrace, BadPlan, ReadFault, WriteFault, TooLarge, BadCapture}
 use Rattle.modelnet.specs.Commands.{Host, Command, ReadInputs, WrittenOutputs, inputs_of, bytes_read, outputs_of, bytes_written, ReadsNot, WritesNot, AreRead, AreWritten, Stands, StopsAt, Passes, FewerPass, IsRefused, Answered}
 use Rattle.modelnet.specs.Exact.{Accepts, IsSoundCommand, IsRefusal}
 use Rattle.modelnet.specs.Roles.{Input, Output, WasRead, WasWritten, IsReadFault, IsTooLarge, IsWriteFault, ReadsInput, WritesOutput}
@@ -239,11 +239,7 @@ stops_reading c reads at later (TooLarge role) old mid new so none own others = 
   passes = so.passes;
   stopped = stops_at reads [] at.role (IsTooLarge at) old mid new so.stands none tt others own.1;
 }
-stops_reading c reads at later Done old mid new so none own others = absurd own
-stops_reading c reads at later (BadWords fault) old mid new so none own others = absurd own
-stops_reading c reads at later (BadTrace fault) old mid new so none own others = absurd own
-stops_reading c reads at later (BadCapture fault) old mid new so none own others = absurd own
-stops_reading c reads at later (WriteFault role) old mid new so none own others = absurd own
+stops_reading c reads at later status old mid new so none own others = absurd own
 
 -- the next input was read whole, and its bytes are refused
 pub refuses : (c : Command) (reads : ReadInputs) (at : Input) (later : List Input) (bytes : List ℕ) (status : Status)
@@ -272,7 +268,9 @@ refuses c reads at later bytes status old mid new sound so none own others (inr 
     by_kind (ReadFault role) is none_of = absurd none_of
     by_kind (WriteFault role) is none_of = absurd none_of
     by_kind (TooLarge role) is none_of = absurd none_of
+    by_kind (BadTopology fault) is none_of = by_bytes (BadTopology fault) is
     by_kind (BadTrace fault) is none_of = by_bytes (BadTrace fault) is
+    by_kind (BadPlan fault) is none_of = by_bytes (BadPlan fault) is
     by_kind (BadCapture fault) is none_of = by_bytes (BadCapture fault) is
 
 -- all inputs were read whole, and these bytes are to be written
@@ -322,13 +320,7 @@ stops_writing c reads writes at later bytes later_bytes (WriteFault role) old mi
   says = so.says;
   stopped = stops_at reads writes at.role (IsWriteFault at bytes) old mid new so.stands unread unwritten others own.1;
 }
-stops_writing c reads writes at later bytes later_bytes Done old mid new so unread unwritten own others = absurd own
-stops_writing c reads writes at later bytes later_bytes NoMemory old mid new so unread unwritten own others = absurd own
-stops_writing c reads writes at later bytes later_bytes (BadWords fault) old mid new so unread unwritten own others = absurd own
-stops_writing c reads writes at later bytes later_bytes (BadTrace fault) old mid new so unread unwritten own others = absurd own
-stops_writing c reads writes at later bytes later_bytes (BadCapture fault) old mid new so unread unwritten own others = absurd own
-stops_writing c reads writes at later bytes later_bytes (ReadFault role) old mid new so unread unwritten own others = absurd own
-stops_writing c reads writes at later bytes later_bytes (TooLarge role) old mid new so unread unwritten own others = absurd own
+stops_writing c reads writes at later bytes later_bytes status old mid new so unread unwritten own others = absurd own
 
 -- all outputs were written whole
 pub is_done : (c : Command) (reads : ReadInputs) (writes : WrittenOutputs) (old new : Host) → HasWritten c reads writes [] [] old new

@@ -1,10 +1,8 @@
 -- A chain makes one output trace and one report of a trace.
-use Rattle.std.proofs.Common.{◌≡◌, ◌≤◌, ℕ, List, [], ◌∷◌, map, refl, sym, ap, subst, ◌∙◌}
+use Rattle.std.proofs.Common.{◌≡◌, ℕ, List, [], ◌∷◌, map, refl, sym, ap, subst, ◌∙◌}
 use Rattle.std.specs.List.{AllZip}
-use Rattle.std.proofs.Math.Bridge.{le_prop}
 use Rattle.mn_base.specs.declared.params.PipeParams.{PipeParams}
-use Rattle.mn_base.specs.declared.limits.TheConstants.{PIPE_LATENCY_US_MAX, PIPE_LATENCY_TICKS_MAX, KEEP_MAX}
-use Rattle.mn_base.specs.Ranges.{IsBandwidth, IsQueueLimit}
+use Rattle.distill.proofs.OneDistilled.{one_params}
 use Rattle.pcap_io.specs.Capture.{Capture}
 use Rattle.pcap_io.specs.Writing.{pcap_text}
 use Rattle.pcapng_in.specs.CaptureFile.{SaysTrace}
@@ -20,51 +18,10 @@ use Rattle.settle.specs.Laws.{IsSameOutcome}
 use Rattle.settle.proofs.OneOutcome.{outcomes_agree}
 use Rattle.report.specs.Traces.{trace_of}
 use Rattle.report.specs.Report.{report_text}
-use Rattle.modelnet.specs.declared.order.PipeSpec.{PipeSpec}
-use Rattle.modelnet.specs.Order.{ChainView}
+use Rattle.mn_words.specs.declared.order.PipeSpec.{PipeSpec}
+use Rattle.mn_words.specs.Order.{ChainView}
 use Rattle.modelnet.specs.Chain.{IsPipeOf, IsChainSetup}
 use Rattle.modelnet.specs.Run.{IsChainRun, SaysRun}
-
--- two proofs that a number lies between two others are one
-one_range : {a b c d : ℕ} (x y : (a ≤ b) × (c ≤ d)) → x ≡ y
-one_range x y = ap (λ l. (l, x.1)) (le_prop x.0 y.0) ∙ ap (λ r. (y.0, r)) (le_prop x.1 y.1)
-
--- parameters with another number in one field, where it is the same
-with_bps : (p : PipeParams) (n : ℕ) → p.bps ≡ n → (range : IsBandwidth n) → p ≡ record p { bps = n; bandwidth = range }
-with_bps p n same = subst (λ k. (range : IsBandwidth k) → p ≡ record p { bps = k; bandwidth = range }) same
-    (λ range. ap (λ r. record p { bandwidth = r }) (one_range p.bandwidth range))
-
-with_us : (p : PipeParams) (n : ℕ) → p.latency_us ≡ n → (range : n ≤ PIPE_LATENCY_US_MAX)
-    → p ≡ record p { latency_us = n; latency = range }
-with_us p n same = subst (λ k. (range : k ≤ PIPE_LATENCY_US_MAX) → p ≡ record p { latency_us = k; latency = range }) same
-    (λ range. ap (λ r. record p { latency = r }) (le_prop p.latency range))
-
-with_ticks : (p : PipeParams) (n : ℕ) → p.latency_ticks ≡ n → (range : (1 ≤ n) × (n ≤ PIPE_LATENCY_TICKS_MAX))
-    → p ≡ record p { latency_ticks = n; delays = range }
-with_ticks p n same = subst
-    (λ k. (range : (1 ≤ k) × (k ≤ PIPE_LATENCY_TICKS_MAX)) → p ≡ record p { latency_ticks = k; delays = range }) same
-    (λ range. ap (λ r. record p { delays = r }) (one_range p.delays range))
-
-with_queue : (p : PipeParams) (n : ℕ) → p.queue ≡ n → (range : IsQueueLimit n) → p ≡ record p { queue = n; places = range }
-with_queue p n same = subst (λ k. (range : IsQueueLimit k) → p ≡ record p { queue = k; places = range }) same
-    (λ range. ap (λ r. record p { places = r }) (one_range p.places range))
-
-with_keep : (p : PipeParams) (n : ℕ) → p.keep ≡ n → (range : n ≤ KEEP_MAX) → p ≡ record p { keep = n; keeps = range }
-with_keep p n same = subst (λ k. (range : k ≤ KEEP_MAX) → p ≡ record p { keep = k; keeps = range }) same
-    (λ range. ap (λ r. record p { keeps = r }) (le_prop p.keeps range))
-
--- a pipe's word has one pair of parameters
-one_pipe : (tick_ns : ℕ) (pipe : PipeSpec) (p q : PipeParams) → IsPipeOf tick_ns pipe p → IsPipeOf tick_ns pipe q → p ≡ q
-one_pipe tick_ns pipe p q is also =
-    let a = record p { bps = q.bps; bandwidth = q.bandwidth } in
-    let b = record a { latency_us = q.latency_us; latency = q.latency } in
-    let c = record b { latency_ticks = q.latency_ticks; delays = q.delays } in
-    let d = record c { queue = q.queue; places = q.places } in
-    with_bps p q.bps (is.bps ∙ sym also.bps) q.bandwidth
-    ∙ with_us a q.latency_us (is.latency_us ∙ sym also.latency_us) q.latency
-    ∙ with_ticks b q.latency_ticks (is.latency_ticks ∙ sym also.latency_ticks) q.delays
-    ∙ with_queue c q.queue (is.queue ∙ sym also.queue) q.places
-    ∙ with_keep d q.keep (is.keep_of_loss ∙ sym also.keep_of_loss) q.keeps
 
 one_list : (tick_ns : ℕ) (pipes : List PipeSpec) (ps qs : List PipeParams) → AllZip (IsPipeOf tick_ns) pipes ps
     → AllZip (IsPipeOf tick_ns) pipes qs → ps ≡ qs
@@ -74,7 +31,7 @@ one_list tick_ns [] (p ∷ ps) qs is also = absurd is
 one_list tick_ns (pipe ∷ pipes) [] qs is also = absurd is
 one_list tick_ns (pipe ∷ pipes) (p ∷ ps) [] is also = absurd also
 one_list tick_ns (pipe ∷ pipes) (p ∷ ps) (q ∷ qs) is also =
-    ap (λ r. r ∷ ps) (one_pipe tick_ns pipe p q is.0 also.0) ∙ ap (λ rs. q ∷ rs) (one_list tick_ns pipes ps qs is.1 also.1)
+    ap (λ r. r ∷ ps) (one_params _ _ _ _ _ p q is.0 also.0) ∙ ap (λ rs. q ∷ rs) (one_list tick_ns pipes ps qs is.1 also.1)
 
 -- the setup of these parts
 unfoldable setup_of_parts : ℕ → ℕ → ℕ → ℕ → ℕ → List PipeParams → List ℕ → List (List ℕ) → List PacketPlan

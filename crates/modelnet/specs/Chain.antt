@@ -3,23 +3,19 @@ use Rattle.std.specs.Prelude.{◌≡◌, ℕ, List, [], ◌∷◌, length, map}
 use Rattle.std.specs.List.{AllZip, range_with_len, enumerate_from}
 use Rattle.std.specs.Prelude.{replicate}
 use Rattle.mn_base.specs.declared.params.PipeParams.{PipeParams}
-use Rattle.mn_base.specs.Units.{latency_in_ticks, keep}
+use Rattle.mn_base.specs.Params.{IsParamsOf}
+use Rattle.mn_base.specs.Units.{keep}
 use Rattle.mn_base.specs.Times.{entry_tick_of}
 use Rattle.pcap_io.specs.declared.packet.Packet.{Packet}
 use Rattle.pcap_io.specs.Capture.{Capture, trace_base}
 use Rattle.journal.specs.declared.setup.PacketPlan.{PacketPlan}
-use Rattle.journal.specs.declared.setup.LossBy.TheVariants.{Packet as ByPacket}
 use Rattle.journal.specs.SetupView.{SetupView}
-use Rattle.modelnet.specs.declared.order.PipeSpec.{PipeSpec}
-use Rattle.modelnet.specs.Order.{ChainView}
+use Rattle.mn_words.specs.declared.order.PipeSpec.{PipeSpec}
+use Rattle.mn_words.specs.Order.{ChainView}
 
 -- the parameters are those of the word, with latency in ticks and loss as a keep
-pub record IsPipeOf (tick_ns : ℕ) (pipe : PipeSpec) (params : PipeParams) : Type 0 where
-  pub bps : params.bps ≡ pipe.bps
-  pub latency_us : params.latency_us ≡ pipe.latency_us
-  pub latency_ticks : params.latency_ticks ≡ latency_in_ticks pipe.latency_us tick_ns
-  pub queue : params.queue ≡ pipe.queue
-  pub keep_of_loss : params.keep ≡ keep pipe.ppm
+abbrev pub IsPipeOf : ℕ → PipeSpec → PipeParams → Type 0
+IsPipeOf tick_ns pipe params = IsParamsOf tick_ns pipe.bps pipe.latency_us pipe.queue (keep pipe.ppm) params
 
 -- a packet of the trace, with its number, as it enters the one route at the one core
 abbrev pub plan_of : ℕ → ℕ → ℕ × Packet → PacketPlan
@@ -34,7 +30,7 @@ plan_of base tick_ns numbered = record {
 abbrev pub plans_of : ℕ → ℕ → List Packet → List PacketPlan
 plans_of base tick_ns packets = map (plan_of base tick_ns) (enumerate_from 0 packets)
 
--- S is the setup of this order and this trace: no pipe changes, and loss words go by packet
+-- S is the setup of this order and this trace: no pipe changes
 pub record IsChainSetup (order : ChainView) (trace : Capture) (S : SetupView) : Type 0 where
   pub tick_ns : S.tick_ns ≡ order.tick_ns
   pub seed : S.seed ≡ order.seed
@@ -46,4 +42,4 @@ pub record IsChainSetup (order : ChainView) (trace : Capture) (S : SetupView) : 
   pub routes : S.routes ≡ range_with_len 0 (length order.pipes) ∷ []
   pub packets : S.packets ≡ plans_of (trace_base trace) order.tick_ns trace.packets
   pub changes : S.changes ≡ []
-  pub loss : S.loss ≡ ByPacket
+  pub loss : S.loss ≡ order.loss

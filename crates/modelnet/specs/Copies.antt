@@ -4,7 +4,7 @@ use Rattle.pcap_io.specs.Capture.{Capture}
 use Rattle.pcap_io.specs.Writing.{pcap_text}
 use Rattle.pcapng_in.specs.Reading.{Pcapng}
 use Rattle.pcapng_in.specs.CaptureFile.{BeginsNg}
-use Rattle.modelnet.specs.Order.{ChainView}
+use Rattle.mn_words.specs.Order.{ChainView}
 use Rattle.modelnet.specs.TheCommands.{chain_writes}
 
 -- `chain` writes the same for a pcapng file and for what is written of its trace as a classic capture

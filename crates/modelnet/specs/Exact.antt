@@ -11,6 +11,10 @@ use Rattle.modelnet.specs.Commands.{Host, Command}
 abbrev pub IsOrNoMemory : Status → Status → Type 0
 IsOrNoMemory due answer = (answer ≡ due) ⊎ (answer ≡ NoMemory)
 
+-- out of memory, or what refuses these bytes
+abbrev pub NoMemoryOrRefuses : (List (List ℕ) → Status → Type 0) → List (List ℕ) → Status → Type 0
+NoMemoryOrRefuses refuses bytes status = (status ≡ NoMemory) ⊎ refuses bytes status
+
 -- no call on the role failed
 abbrev pub IsQuiet : Role → Host → Host → Type 0
 IsQuiet role old new = Rose (old role).faults (new role).faults → ⊥

@@ -2,16 +2,11 @@ pub mod Answers
 pub mod Chain
 pub mod Commands
 pub mod Copies
+pub mod Distilling
 pub mod Ends
 pub mod Exact
-pub mod Forms
-pub mod Order
-pub mod Parted
-pub mod PipeWord
 pub mod Roles
 pub mod Run
 pub mod StatusTexts
 pub mod Statuses
-pub mod Steps
 pub mod TheCommands
-pub mod Words

@@ -9,7 +9,7 @@ use Rattle.settle.specs.OutcomeView.{OutcomeView}
 use Rattle.settle.specs.IsOutcome.{IsOutcome}
 use Rattle.report.specs.Traces.{trace_of}
 use Rattle.report.specs.Report.{report_text}
-use Rattle.modelnet.specs.Order.{ChainView}
+use Rattle.mn_words.specs.Order.{ChainView}
 use Rattle.modelnet.specs.Chain.{IsChainSetup}
 
 -- By the one journal of the chain's setup: each packet that leaves stands once in the trace written, with its own bytes, at the

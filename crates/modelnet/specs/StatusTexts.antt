@@ -1,15 +1,19 @@
 -- The lines that tell how a command ended. All are ASCII; a line ends with a line feed, 10.
 use Rattle.std.specs.Prelude.{ℕ, List, [], ◌∷◌, ◌++◌, codes}
+use Rattle.std.specs.Fmt.{decimal}
 use Rattle.mn_edge.specs.declared.role.Role.{Role}
 use Rattle.mn_edge.specs.declared.role.Role.TheVariants as role
 use Rattle.pcap_io.specs.FaultTexts.{pcap_fault_text}
 use Rattle.pcapng_in.specs.FaultTexts.{ng_fault_text}
-use Rattle.modelnet.specs.declared.words_fault.Opt.{Opt}
-use Rattle.modelnet.specs.declared.words_fault.Opt.TheVariants as opt
-use Rattle.modelnet.specs.declared.words_fault.WordsFault.{WordsFault}
-use Rattle.modelnet.specs.declared.words_fault.WordsFault.TheVariants.{Command, Form, Value}
+use Rattle.gml_reader.specs.FaultTexts.{gml_fault_text}
+use Rattle.mn_words.specs.declared.opt.Opt.{Opt}
+use Rattle.mn_words.specs.declared.opt.Opt.TheVariants as opt
+use Rattle.mn_words.specs.declared.opt.WordsFault.{WordsFault}
+use Rattle.mn_words.specs.declared.opt.WordsFault.TheVariants.{Command, Form, Value}
+use Rattle.modelnet.specs.declared.plan_fault.PlanFault.{PlanFault}
+use Rattle.modelnet.specs.declared.plan_fault.PlanFault.TheVariants.{TooManyPipes}
 use Rattle.modelnet.specs.declared.status.Status.{Status}
-use Rattle.modelnet.specs.declared.status.Status.TheVariants.{Done, NoMemory, BadWords, BadTrace, ReadFault, WriteFault, TooLarge, BadCapture}
+use Rattle.modelnet.specs.declared.status.Status.TheVariants.{Done, NoMemory, BadWords, BadTopology, BadTrace, BadPlan, ReadFault, WriteFault, TooLarge, BadCapture}
 
 -- the program's name, a text, and a line feed
 abbrev pub program_line : List ℕ → List ℕ
@@ -26,6 +30,7 @@ opt_name opt.Turns = codes "--turns"
 opt_name opt.Number = codes "--number"
 opt_name opt.Packets = codes "--packets"
 opt_name opt.Pipe = codes "PIPE"
+opt_name opt.Loss = codes "--loss"
 
 abbrev pub role_name : Role → List ℕ
 role_name role.Topology = codes "topology"
@@ -40,12 +45,17 @@ words_fault_text Command = codes "no such command"
 words_fault_text Form = codes "bad words"
 words_fault_text (Value opt) = codes "bad value of " ++ opt_name opt
 
+abbrev pub plan_fault_text : PlanFault → List ℕ
+plan_fault_text (TooManyPipes count) = codes "plan: " ++ decimal count ++ codes " pipes"
+
 -- the line of a status; done has none
 unfoldable pub status_text : Status → List ℕ
 status_text Done = []
 status_text NoMemory = program_line (codes "no memory")
 status_text (BadWords fault) = program_line (words_fault_text fault)
+status_text (BadTopology fault) = program_line (codes "topology: " ++ gml_fault_text fault)
 status_text (BadTrace fault) = program_line (codes "trace: " ++ pcap_fault_text fault)
+status_text (BadPlan fault) = program_line (plan_fault_text fault)
 status_text (ReadFault role) = program_line (codes "cannot read " ++ role_name role)
 status_text (WriteFault role) = program_line (codes "cannot write " ++ role_name role)
 status_text (TooLarge role) = program_line (role_name role ++ codes " is too large")

@@ -5,15 +5,20 @@ use Rattle.mn_base.specs.declared.refusal.Refusal.TheVariants.{Fault}
 use Rattle.mn_base.specs.declared.refusal.Refusal.TheVariants as refusal
 use Rattle.pcapng_in.specs.declared.fault.CaptureFault.{CaptureFault}
 use Rattle.pcapng_in.specs.declared.fault.CaptureFault.TheVariants.{Pcap, Ng}
+use Rattle.gml_reader.specs.declared.faults.GmlFault.{GmlFault}
+use Rattle.distill.specs.declared.pipes.TooManyPipes.{TooManyPipes}
+use Rattle.modelnet.specs.declared.plan_fault.PlanFault.TheVariants as plan
 use Rattle.modelnet.specs.declared.status.Status.{Status}
-use Rattle.modelnet.specs.declared.status.Status.TheVariants.{Done, NoMemory, BadWords, BadTrace, ReadFault, WriteFault, TooLarge, BadCapture}
+use Rattle.modelnet.specs.declared.status.Status.TheVariants.{Done, NoMemory, BadWords, BadTopology, BadTrace, BadPlan, ReadFault, WriteFault, TooLarge, BadCapture}
 
--- the number of a status; 3, 5, 9 and 10 are free
+-- the number of a status; 9 and 10 are free
 abbrev pub status_number : Status → ℕ
 status_number Done = 0
 status_number NoMemory = 1
 status_number (BadWords fault) = 2
+status_number (BadTopology fault) = 3
 status_number (BadTrace fault) = 4
+status_number (BadPlan fault) = 5
 status_number (ReadFault role) = 6
 status_number (WriteFault role) = 7
 status_number (TooLarge role) = 8
@@ -24,3 +29,13 @@ abbrev pub trace_refusal : Refusal CaptureFault → Status
 trace_refusal refusal.NoMemory = NoMemory
 trace_refusal (Fault (Pcap fault)) = BadTrace fault
 trace_refusal (Fault (Ng fault)) = BadCapture fault
+
+-- out of memory, or the fault of a topology
+abbrev pub topology_refusal : Refusal GmlFault → Status
+topology_refusal refusal.NoMemory = NoMemory
+topology_refusal (Fault fault) = BadTopology fault
+
+-- out of memory, or too many pipes
+abbrev pub pipes_refusal : Refusal TooManyPipes → Status
+pipes_refusal refusal.NoMemory = NoMemory
+pipes_refusal (Fault too_many) = BadPlan (plan.TooManyPipes too_many.count)

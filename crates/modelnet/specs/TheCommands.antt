@@ -1,17 +1,20 @@
--- The commands: the roles of each, and what it makes of its bytes.
-use Rattle.std.specs.Prelude.{◌≤◌, ℕ, List, [], ◌∷◌}
-use Rattle.mn_base.specs.declared.limits.TheConstants.{TRACE_BYTES_MAX}
-use Rattle.mn_edge.specs.declared.role.Role.TheVariants.{Trace, Out, Report}
+-- The commands: the roles of each, and what it makes of its bytes. A further command is two relations, a row and an arm here.
+use Rattle.std.specs.Prelude.{◌≤◌, ℕ, List, [], ◌∷◌, codes}
+use Rattle.mn_base.specs.declared.limits.TheConstants.{TOPOLOGY_BYTES_MAX, TRACE_BYTES_MAX}
+use Rattle.mn_edge.specs.declared.role.Role.TheVariants.{Topology, Trace, Out, Report, Screen}
+use Rattle.mn_words.specs.declared.order.Order.{Order}
+use Rattle.mn_words.specs.declared.order.Order.TheVariants.{Chain, Distill}
+use Rattle.mn_words.specs.Order.{ChainView, DistillView}
 use Rattle.pcapng_in.specs.declared.fault.CaptureFault.TheVariants.{Pcap, Ng}
 use Rattle.pcapng_in.specs.CaptureFile.{CaptureFirst}
-use Rattle.modelnet.specs.declared.order.Order.{Order}
-use Rattle.modelnet.specs.declared.order.Order.TheVariants.{Chain}
+use Rattle.gml_reader.specs.Texts.{IsFirstFault}
+use Rattle.modelnet.specs.declared.plan_fault.PlanFault.TheVariants.{TooManyPipes}
 use Rattle.modelnet.specs.declared.read_limits.ReadLimits.{ReadLimits}
 use Rattle.modelnet.specs.declared.status.Status.{Status}
-use Rattle.modelnet.specs.declared.status.Status.TheVariants.{BadTrace, BadCapture}
-use Rattle.modelnet.specs.Order.{ChainView, IsOrder}
+use Rattle.modelnet.specs.declared.status.Status.TheVariants.{BadTopology, BadTrace, BadPlan, BadCapture}
 use Rattle.modelnet.specs.Roles.{input, output}
 use Rattle.modelnet.specs.Run.{SaysRun}
+use Rattle.modelnet.specs.Distilling.{SaysPipes, HasTooManyPipes}
 use Rattle.modelnet.specs.Commands.{Command}
 
 -- `chain` refuses the trace by its first fault, which is one of its format
@@ -33,18 +36,35 @@ chain_command limits order = record {
   writes = chain_writes order;
 }
 
--- the numbers of an order are in their ranges
-abbrev pub IsInRange : Order → Type 0
-IsInRange (Chain order) = IsOrder order
+-- `distill` refuses the topology by its first fault, or since it has too many pipes
+abbrev pub distill_refuses : DistillView → List (List ℕ) → Status → Type 0
+distill_refuses order (topology ∷ []) (BadTopology fault) = IsFirstFault topology fault
+distill_refuses order (topology ∷ []) (BadPlan (TooManyPipes count)) = HasTooManyPipes order topology count
+distill_refuses order read refusal = ⊥
 
--- the command of an order, where no more bytes of a role are read than these limits
-abbrev pub command_of : ReadLimits → Order → Command
-command_of limits (Chain order) = chain_command limits order
+-- `distill` writes the pipes of the distilled topology
+abbrev pub distill_writes : DistillView → List (List ℕ) → List (List ℕ) → Type 0
+distill_writes order (topology ∷ []) (screen ∷ []) = SaysPipes order topology screen
+distill_writes order read written = ⊥
+
+abbrev pub distill_command : ReadLimits → DistillView → Command
+distill_command limits order = record {
+  inputs = input Topology order.topology limits.topology ∷ [];
+  outputs = output Screen (codes "-") ∷ [];
+  refuses = distill_refuses order;
+  writes = distill_writes order;
+}
+
+-- the row of an order, where no more bytes of a role are read than these limits
+abbrev pub row_of : ReadLimits → Order → Command
+row_of limits (Chain order) = chain_command limits order
+row_of limits (Distill order) = distill_command limits order
 
 -- the most bytes that are read of each role
 abbrev pub usual_limits : ReadLimits
-usual_limits = record { trace = TRACE_BYTES_MAX }
+usual_limits = record { topology = TOPOLOGY_BYTES_MAX; trace = TRACE_BYTES_MAX }
 
 -- no limit is above the usual one
-abbrev pub AreWithinUsual : ReadLimits → Type 0
-AreWithinUsual limits = limits.trace ≤ TRACE_BYTES_MAX
+pub record AreWithinUsual (limits : ReadLimits) : Type 0 where
+  pub topology : limits.topology ≤ TOPOLOGY_BYTES_MAX
+  pub trace : limits.trace ≤ TRACE_BYTES_MAX

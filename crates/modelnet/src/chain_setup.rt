@@ -2,20 +2,20 @@ ghost use Rattle.std.specs.Prelude.{◌≡◌, ◌≤◌, ℕ, length, map, All,
 ghost use Rattle.std.specs.List.{AllZip, range_with_len};
 ghost use Rattle.mn_base.specs.Ranges.{IsTickLength};
 ghost use Rattle.pcap_io.specs.Capture.{IsRecordTime, IsTrace};
-ghost use Rattle.modelnet.specs.Order.{IsPipeSpec, IsOrder};
+ghost use Rattle.mn_words.specs.Order.{IsPipeSpec, IsChainOrder};
 ghost use Rattle.modelnet.specs.Chain.{IsPipeOf, IsChainSetup, plans_of};
 
-use crate::order::{ChainOrder, PipeSpec};
-use journal::{LossBy, PacketPlan, Setup, SetupParts};
+use journal::{PacketPlan, Setup, SetupParts};
 use mn_base::limits::{CHAIN_PIPES_MAX, PACKETS_MAX};
 use mn_base::{NoMemory, PipeParams, entry_tick, keep_of_ppm};
+use mn_words::{ChainOrder, PipeSpec};
 use pcap_io::{Packet, Trace};
 use std::alloc::Global;
 
-/// The setup of a chain: one route of all its pipes, one core, and each packet of the trace bound to that route. No pipe changes,
-/// and loss words go by packet.
+/// The setup of a chain: one route of all its pipes, one core, and each packet of the trace bound to that route. No pipe
+/// changes.
 pub fn chain_setup(alloc: Global, order: &ChainOrder, trace: &Trace) -> Result<Setup, NoMemory>
-    requires order { IsOrder order.now }
+    requires order { IsChainOrder order.now }
     requires trace { IsTrace trace.now }
     requires times { All (λ p. IsRecordTime p.time_ns) trace.now.packets }
     ensures { IfOk result (IsChainSetup order.now trace.now) }
@@ -25,7 +25,7 @@ pub fn chain_setup(alloc: Global, order: &ChainOrder, trace: &Trace) -> Result<S
 }
 
 fn chain_parts(alloc: Global, order: &ChainOrder, trace: &Trace) -> Result<SetupParts, NoMemory>
-    requires order { IsOrder order.now }
+    requires order { IsChainOrder order.now }
     ensures { IfOk result (IsChainSetup order.now trace.now) }
 {
     let packets = trace.packets();
@@ -44,7 +44,7 @@ fn chain_parts(alloc: Global, order: &ChainOrder, trace: &Trace) -> Result<Setup
         routes,
         packets: packet_plans(alloc, packets, base_ns, order.tick_ns)?,
         changes: Vec::new(alloc),
-        loss: LossBy::Packet,
+        loss: order.loss,
     })
 }
 

@@ -1,9 +1,9 @@
 // The words with which the program was started.
 ghost use Rattle.std.specs.Prelude.{◌≡◌, map, drop, string_bytes, IfOk};
-ghost use Rattle.modelnet.specs.Words.{texts};
+ghost use Rattle.mn_words.specs.Words.{texts};
 
 use crate::status::Status;
-use crate::words_fault::WordsFault;
+use mn_words::WordsFault;
 use std::alloc::{AllocError, Global};
 use std::env::Env;
 use std::{env, io};

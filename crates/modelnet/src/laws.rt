@@ -2,13 +2,6 @@
 
 ghost use Rattle.modelnet.specs.Answers.{EachCommandIsSound, WordsAndBytesHaveOneOutcome};
 ghost use Rattle.modelnet.specs.Copies.{PcapngIsReplayedAsItsCopy};
-ghost use Rattle.modelnet.specs.Forms.{WordsArePartedAsTheyStand};
-
-/// The words after `chain` are parted if and only if they are the words of three options, of two that may be left out, and of
-/// PIPEs, and then into these.
-pub fn words_are_parted_as_they_stand()
-    ensures { WordsArePartedAsTheyStand }
-{}
 
 /// Of each command: bytes are refused by one answer at most, what is refused isn't written, and there is one output at most.
 pub fn each_command_is_sound()

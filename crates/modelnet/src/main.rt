@@ -1,5 +1,5 @@
 //! The emulator's commands over a host, and the program.
-//! It stands on all crates below it; its files are the words, the roles of a host, the run and its texts.
+//! It stands on the crates below it; its files are the roles of a host and, for each command, the run and the order of its roles.
 //! Its contract, on `plain`, speaks of `Answers` and `IsExact` (specs/Answers.antt): what stands after each answer, and which one it is.
 #![tactic(auto)]
 
@@ -8,25 +8,23 @@ ghost use Rattle.std.specs.Process.{exit_status};
 ghost use Rattle.mn_edge.specs.declared.role.Role.{Role};
 ghost use Rattle.modelnet.specs.Ends.{IsEnding};
 ghost use Rattle.modelnet.specs.Statuses.{status_number};
-ghost use Rattle.modelnet.specs.Words.{texts};
+ghost use Rattle.mn_words.specs.Words.{texts};
 
-mod chain;
+mod chain_command;
+mod chain_run;
 mod chain_setup;
 mod command_line;
-mod cursor;
+mod distill_command;
+mod distill_run;
 mod laws;
-mod order;
-mod pipe_word;
 mod plain;
+mod plan_fault;
 mod read_limits;
 mod roles;
-mod run;
 mod status;
 mod status_line;
 #[cfg(test)]
 mod tests;
-mod words;
-mod words_fault;
 
 use crate::command_line::{command_line, words_behind};
 use crate::plain::plain;

@@ -2,17 +2,17 @@ ghost use Rattle.std.specs.Prelude.{◌≡◌, false};
 ghost use Rattle.mn_edge.specs.declared.role.Role.{Role};
 ghost use Rattle.modelnet.specs.Answers.{Answers, IsExact};
 ghost use Rattle.modelnet.specs.Commands.{Answered};
-ghost use Rattle.modelnet.specs.TheCommands.{command_of, usual_limits, AreWithinUsual, IsInRange};
-ghost use Rattle.modelnet.specs.Words.{texts};
+ghost use Rattle.modelnet.specs.TheCommands.{row_of, usual_limits, AreWithinUsual};
+ghost use Rattle.mn_words.specs.Words.{texts, IsInRange};
 
-use crate::chain::chain;
-use crate::order::Order;
+use crate::chain_command::chain;
+use crate::distill_command::distill;
 use crate::read_limits::ReadLimits;
 use crate::status::Status;
-use crate::words::read_words;
 use mn_base::Refusal;
-use mn_base::limits::TRACE_BYTES_MAX;
+use mn_base::limits::{TOPOLOGY_BYTES_MAX, TRACE_BYTES_MAX};
 use mn_edge::Host;
+use mn_words::{Order, read_words};
 use std::alloc::Global;
 
 /// Does what a command line asks for: reads its inputs, runs, and writes its outputs.
@@ -28,6 +28,7 @@ pub fn plain<H: Host>(alloc: Global, words: &[&str], host: &mut H) -> Status
     ensures exact { IsExact usual_limits (texts words.now) (H.part host.old) (H.part host.new) result }
 {
     let limits = ReadLimits {
+        topology: TOPOLOGY_BYTES_MAX,
         trace: TRACE_BYTES_MAX,
     };
     plain_within(alloc, &limits, words, host)
@@ -55,10 +56,11 @@ fn command<H: Host>(alloc: Global, limits: &ReadLimits, order: &Order, host: &mu
     requires inactive { (role : Role) → (H.part host.old role).active ≡ false }
     requires ranges { IsInRange order.now }
     requires limits { AreWithinUsual limits.now }
-    ensures { Answered (command_of limits.now order.now) (H.part host.old) (H.part host.new) result }
+    ensures { Answered (row_of limits.now order.now) (H.part host.old) (H.part host.new) result }
 {
     let done = match order {
         Order::Chain(order) => chain(alloc, limits, order, host),
+        Order::Distill(order) => distill(alloc, limits, order, host),
     };
     match done {
         Ok(()) => Status::Done,

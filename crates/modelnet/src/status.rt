@@ -1,9 +1,12 @@
 ghost use Rattle.std.specs.Prelude.{◌≡◌};
 ghost use Rattle.modelnet.specs.Statuses.{status_number};
 
-use crate::words_fault::WordsFault;
+use crate::plan_fault::PlanFault;
+use distill::TooManyPipes;
+use gml_reader::GmlFault;
 use mn_base::Refusal;
 use mn_edge::Role;
+use mn_words::WordsFault;
 use pcap_io::PcapFault;
 use pcapng_in::{CaptureFault, NgFault};
 
@@ -16,8 +19,12 @@ pub enum Status {
     NoMemory,
     /// The command line is invalid.
     BadWords(WordsFault),
+    /// The topology is no GML text that gives one; this is its first fault.
+    BadTopology(GmlFault),
     /// The trace is no pcap file, nor does it begin as a pcapng file; this is its first fault.
     BadTrace(PcapFault),
+    /// No run can be planned on the topology.
+    BadPlan(PlanFault),
     /// A call of the host on this input role failed.
     ReadFault(Role),
     /// A call of the host on this output role failed.
@@ -43,6 +50,36 @@ impl From<Refusal<CaptureFault>> for Status {
     }
 }
 
+impl From<Refusal<GmlFault>> for Status {
+    ghost use Rattle.std.specs.Prelude.{◌≡◌};
+    ghost use Rattle.modelnet.specs.Statuses.{topology_refusal};
+
+    ghost from_gives = { λ refusal status. status ≡ topology_refusal refusal };
+
+    fn from(refusal: Refusal<GmlFault>) -> Status {
+        match refusal {
+            Refusal::NoMemory => Status::NoMemory,
+            Refusal::Fault(fault) => Status::BadTopology(fault),
+        }
+    }
+}
+
+impl From<Refusal<TooManyPipes>> for Status {
+    ghost use Rattle.std.specs.Prelude.{◌≡◌};
+    ghost use Rattle.modelnet.specs.Statuses.{pipes_refusal};
+
+    ghost from_gives = { λ refusal status. status ≡ pipes_refusal refusal };
+
+    fn from(refusal: Refusal<TooManyPipes>) -> Status {
+        match refusal {
+            Refusal::NoMemory => Status::NoMemory,
+            Refusal::Fault(TooManyPipes { count }) => {
+                Status::BadPlan(PlanFault::TooManyPipes(count))
+            }
+        }
+    }
+}
+
 impl Status {
     /// The number with which the program ends.
     pub fn number(&self) -> u8
@@ -52,7 +89,9 @@ impl Status {
             Status::Done => 0,
             Status::NoMemory => 1,
             Status::BadWords(_) => 2,
+            Status::BadTopology(_) => 3,
             Status::BadTrace(_) => 4,
+            Status::BadPlan(_) => 5,
             Status::ReadFault(_) => 6,
             Status::WriteFault(_) => 7,
             Status::TooLarge(_) => 8,

@@ -1,10 +1,11 @@
 ghost use Rattle.std.specs.Prelude.{◌≡◌, string_bytes, IfOk};
-ghost use Rattle.modelnet.specs.StatusTexts.{opt_name, role_name, words_fault_text, status_text};
+ghost use Rattle.modelnet.specs.StatusTexts.{opt_name, plan_fault_text, role_name, words_fault_text, status_text};
 
+use crate::plan_fault::PlanFault;
 use crate::status::Status;
-use crate::words_fault::{Opt, WordsFault};
 use mn_base::{Bytes, NoMemory};
 use mn_edge::Role;
+use mn_words::{Opt, WordsFault};
 use std::alloc::{AllocError, Global};
 
 /// The line that tells how a command ended, with a line feed at its end. `Done` has no line, and its text is empty.
@@ -28,8 +29,13 @@ fn line_of(alloc: Global, status: Status) -> Result<String, AllocError>
             let text = words_fault_text(alloc, fault)?;
             format!(in alloc; "modelnet: {text}\n")
         }
+        Status::BadTopology(fault) => format!(in alloc; "modelnet: topology: {fault}\n"),
         Status::BadTrace(fault) => format!(in alloc; "modelnet: trace: {fault}\n"),
         Status::BadCapture(fault) => format!(in alloc; "modelnet: trace: {fault}\n"),
+        Status::BadPlan(fault) => {
+            let text = plan_fault_text(alloc, fault)?;
+            format!(in alloc; "modelnet: {text}\n")
+        }
         Status::ReadFault(role) => {
             let role = role_name(role);
             format!(in alloc; "modelnet: cannot read {role}\n")
@@ -59,6 +65,14 @@ fn words_fault_text(alloc: Global, fault: WordsFault) -> Result<String, AllocErr
     }
 }
 
+fn plan_fault_text(alloc: Global, fault: PlanFault) -> Result<String, AllocError>
+    ensures { IfOk result (λ text. string_bytes text ≡ plan_fault_text fault) }
+{
+    match fault {
+        PlanFault::TooManyPipes(count) => format!(in alloc; "plan: {count} pipes"),
+    }
+}
+
 fn opt_name(opt: Opt) -> &'static str
     ensures { result.now ≡ opt_name opt }
 {
@@ -73,6 +87,7 @@ fn opt_name(opt: Opt) -> &'static str
         Opt::Number => "--number",
         Opt::Packets => "--packets",
         Opt::Pipe => "PIPE",
+        Opt::Loss => "--loss",
     }
 }
 

@@ -1,29 +1,35 @@
 // Out of memory may stand in the place of any answer, and no contract can rule that out. So each status that a command has
 // comes in a test here, with memory:
 //
-// | status | `chain` |
-// |---|---|
-// | Done | one_packet_leaves_at_tick_60 |
-// | BadWords | words_that_are_no_order_are_refused |
-// | BadTrace | a_cut_record_is_refused_and_nothing_is_written |
-// | ReadFault(Trace) | a_failed_read_is_named_by_its_role |
-// | WriteFault(Out) | a_failed_write_leaves_a_front_of_the_output_trace |
-// | WriteFault(Report) | a_failed_write_of_the_report_leaves_the_output_trace_whole |
-// | TooLarge(Trace) | a_trace_above_its_limit_is_too_large |
-// | BadCapture | pcapng::a_cut_block_is_refused_and_nothing_is_written |
+// | status | `chain` | `distill` |
+// |---|---|---|
+// | Done | one_packet_leaves_at_tick_60 | distilling::two_stubs_are_walked_in |
+// | BadWords | words_that_are_no_order_are_refused | words_that_are_no_order_are_refused |
+// | BadTopology | | distilling::a_topology_is_refused_by_its_first_fault |
+// | BadTrace | a_cut_record_is_refused_and_nothing_is_written | |
+// | BadPlan(TooManyPipes) | | distilling::a_mesh_of_1001000_pipes_is_refused |
+// | ReadFault(Topology) | | distilling::a_failed_read_of_the_topology_is_named |
+// | ReadFault(Trace) | a_failed_read_is_named_by_its_role | |
+// | WriteFault(Out) | a_failed_write_leaves_a_front_of_the_output_trace | |
+// | WriteFault(Report) | a_failed_write_of_the_report_leaves_the_output_trace_whole | |
+// | WriteFault(Screen) | | distilling::a_failed_write_leaves_a_front_of_the_screen |
+// | TooLarge(Topology) | | distilling::a_topology_above_its_limit_is_too_large |
+// | TooLarge(Trace) | a_trace_above_its_limit_is_too_large | |
+// | BadCapture | pcapng::a_cut_block_is_refused_and_nothing_is_written | |
 ghost use Rattle.std.specs.Prelude.{◌≡◌, ◌≤◌, false};
 ghost use Rattle.mn_edge.specs.declared.role.Role.{Role};
 ghost use Rattle.mn_edge.specs.MemoryHostView.{stream_of};
 
 mod bursts;
+mod distilling;
 mod pcapng;
 
 use crate::plain::{plain, plain_within};
 use crate::read_limits::ReadLimits;
 use crate::status::Status;
-use crate::words_fault::{Opt, WordsFault};
-use mn_base::limits::TRACE_BYTES_MAX;
+use mn_base::limits::{TOPOLOGY_BYTES_MAX, TRACE_BYTES_MAX};
 use mn_edge::{Fail, MemoryHost, Op, RealHost, Role};
+use mn_words::{Opt, WordsFault};
 use pcap_io::PcapFault;
 use std::fs;
 use std::process::Abort;
@@ -228,6 +234,106 @@ fn packets_out_of_time_order_enter_by_their_times(rt: HostRuntime) {
     assert_writes(&rt, ONE_PIPE, &BIG_ENDIAN, &BIG_ENDIAN_OUT, report);
 }
 
+/// Packets of 1,000 bytes at these times in ns.
+fn packets_at(rt: &(impl Abort + AllocGlobal), times: &[u64]) -> Vec<(u64, u32)> {
+    let mut packets = Vec::new(rt.alloc());
+    for time_ns in times {
+        packets.push((*time_ns, 1000)).expect(rt, "memory");
+    }
+    packets
+}
+
+/// A pipe that loses half of the packets, which are 100 ticks apart. The first 16 words of ChaCha8 with the key 0 are at least
+/// 2^31 at the places 1, 2, 3, 4, 6, 12 and 14; they were worked out by another program.
+const HALF_BY_ARRIVAL: &str =
+    "chain --loss arrival --trace t --out o --report r 8000000:5000:50:500000";
+
+const HALF_LEFT: [u64; 9] = [
+    6_000_000,
+    56_000_000,
+    76_000_000,
+    86_000_000,
+    96_000_000,
+    106_000_000,
+    116_000_000,
+    136_000_000,
+    156_000_000,
+];
+
+#[test]
+fn loss_by_arrival_takes_the_words_in_the_order_of_visits(rt: HostRuntime) {
+    let packets = packets_at(
+        &rt,
+        &[
+            0,
+            10_000_000,
+            20_000_000,
+            30_000_000,
+            40_000_000,
+            50_000_000,
+            60_000_000,
+            70_000_000,
+            80_000_000,
+            90_000_000,
+            100_000_000,
+            110_000_000,
+            120_000_000,
+            130_000_000,
+            140_000_000,
+            150_000_000,
+        ],
+    );
+    let report = "modelnet report 1\n\
+        packets 16 bound 16 unbound 0 left 9 dropped 7\n\
+        pipe 0 passed 9 lost 7 full 0\n\
+        drop 1 pipe 0 tick 100 cause loss\n\
+        drop 2 pipe 0 tick 200 cause loss\n\
+        drop 3 pipe 0 tick 300 cause loss\n\
+        drop 4 pipe 0 tick 400 cause loss\n\
+        drop 6 pipe 0 tick 600 cause loss\n\
+        drop 12 pipe 0 tick 1200 cause loss\n\
+        drop 14 pipe 0 tick 1400 cause loss\n";
+    let left = packets_at(&rt, &HALF_LEFT);
+    assert_leave(&rt, HALF_BY_ARRIVAL, &packets, &left, report);
+}
+
+#[test]
+fn records_in_another_order_are_lost_at_the_same_ticks(rt: HostRuntime) {
+    let packets = packets_at(
+        &rt,
+        &[
+            150_000_000,
+            140_000_000,
+            130_000_000,
+            120_000_000,
+            110_000_000,
+            100_000_000,
+            90_000_000,
+            80_000_000,
+            70_000_000,
+            60_000_000,
+            50_000_000,
+            40_000_000,
+            30_000_000,
+            20_000_000,
+            10_000_000,
+            0,
+        ],
+    );
+    let report = "modelnet report 1\n\
+        packets 16 bound 16 unbound 0 left 9 dropped 7\n\
+        pipe 0 passed 9 lost 7 full 0\n\
+        drop 1 pipe 0 tick 1400 cause loss\n\
+        drop 3 pipe 0 tick 1200 cause loss\n\
+        drop 9 pipe 0 tick 600 cause loss\n\
+        drop 11 pipe 0 tick 400 cause loss\n\
+        drop 12 pipe 0 tick 300 cause loss\n\
+        drop 13 pipe 0 tick 200 cause loss\n\
+        drop 14 pipe 0 tick 100 cause loss\n";
+    let left = packets_at(&rt, &HALF_LEFT);
+    assert_leave(&rt, HALF_BY_ARRIVAL, &packets, &left, report);
+}
+
 /// Runs a command line over a host whose calls may fail, and compares how it ends and what stands in the output trace.
 fn assert_stops(
     rt: &(impl Abort + AllocGlobal),
@@ -266,6 +372,9 @@ fn words_that_are_no_order_are_refused(rt: HostRuntime) {
     let line = "chain --trace t --out o --report r 8000000:5000:1001:0";
     let value = Status::BadWords(WordsFault::Value(Opt::Pipe));
     assert_stops(&rt, line, &ONE_PACKET, &[], 4_096, value, 0);
+    let line = "distill --topology g --mode walk:0";
+    let mode = Status::BadWords(WordsFault::Value(Opt::Mode));
+    assert_stops(&rt, line, &ONE_PACKET, &[], 4_096, mode, 0);
 }
 
 #[test]
@@ -297,7 +406,10 @@ fn status_within(rt: &(impl Abort + AllocGlobal), limit: usize) -> Status
 {
     let words = words_in(rt, ONE_PIPE);
     let mut host = host(rt, &ONE_PACKET, &[], 8, 4_096);
-    let limits = ReadLimits { trace: limit };
+    let limits = ReadLimits {
+        topology: TOPOLOGY_BYTES_MAX,
+        trace: limit,
+    };
     plain_within(rt.alloc(), &limits, &words, &mut host)
 }
 

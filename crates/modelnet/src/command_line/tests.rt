@@ -2,7 +2,7 @@ ghost use Rattle.std.specs.Io.{WritesAtMost};
 
 use crate::command_line::command_line;
 use crate::status::Status;
-use crate::words_fault::WordsFault;
+use mn_words::WordsFault;
 use std::env::{Env, FillError};
 
 /// A system that was started with one word behind the program's name.

@@ -1,10 +1,13 @@
+use crate::plan_fault::PlanFault;
 use crate::status::Status;
 use crate::status_line::status_line;
-use crate::words_fault::{Opt, WordsFault};
+use gml_reader::{GmlFault, Item};
 use mn_edge::Role;
+use mn_words::{Opt, WordsFault};
 use pcap_io::PcapFault;
 use std::alloc::Global;
 use std::test::Fail;
+use topo::{Key, Many, TopoFault};
 
 /// The lines of these statuses, one behind another.
 fn lines_of(alloc: Global, statuses: &[Status]) -> Result<Vec<u8>, Fail> {
@@ -31,6 +34,7 @@ fn lines_of_words(rt: HostRuntime) -> Result<(), Fail> {
         WordsFault::Value(Opt::Number),
         WordsFault::Value(Opt::Packets),
         WordsFault::Value(Opt::Pipe),
+        WordsFault::Value(Opt::Loss),
     ];
     let lines = lines_of(rt.alloc(), &faults.map(Status::BadWords))?;
     let expected = "\
@@ -46,6 +50,7 @@ modelnet: bad value of --turns
 modelnet: bad value of --number
 modelnet: bad value of --packets
 modelnet: bad value of PIPE
+modelnet: bad value of --loss
 ";
     assert_eq!(rt; lines.as_slice(), expected.as_bytes());
     Ok(())
@@ -73,6 +78,60 @@ modelnet: trace: packet 0 is cut short
 modelnet: trace: time of packet 7 out of range
 modelnet: trace: packet 1048575 is too long
 modelnet: trace: too many packets
+";
+    assert_eq!(rt; lines.as_slice(), expected.as_bytes());
+    Ok(())
+}
+
+#[test]
+fn lines_of_topologies_and_plans(rt: HostRuntime) -> Result<(), Fail> {
+    let node = Item::Node(3);
+    let edge = Item::Edge(4);
+    let statuses = [
+        Status::BadTopology(GmlFault::Lex { place: 8 }),
+        Status::BadTopology(GmlFault::Grammar { place: 21 }),
+        Status::BadTopology(GmlFault::TooDeep { place: 134 }),
+        Status::BadTopology(GmlFault::NoGraph),
+        Status::BadTopology(GmlFault::Missing {
+            item: node,
+            key: Key::Id,
+        }),
+        Status::BadTopology(GmlFault::Missing {
+            item: edge,
+            key: Key::Bandwidth,
+        }),
+        Status::BadTopology(GmlFault::Kind {
+            item: Item::Graph,
+            key: Key::Directed,
+        }),
+        Status::BadTopology(GmlFault::BadAddress { node: 5 }),
+        Status::BadTopology(GmlFault::Topo(TopoFault::TooMany(Many::Nodes))),
+        Status::BadTopology(GmlFault::Topo(TopoFault::TooMany(Many::EdgeNodes))),
+        Status::BadTopology(GmlFault::Topo(TopoFault::TooMany(Many::Links))),
+        Status::BadTopology(GmlFault::Topo(TopoFault::DuplicateId(1))),
+        Status::BadTopology(GmlFault::Topo(TopoFault::DuplicateAddress(2))),
+        Status::BadTopology(GmlFault::Topo(TopoFault::UnknownNode(0))),
+        Status::BadTopology(GmlFault::Topo(TopoFault::Range(6, Key::Loss))),
+        Status::BadPlan(PlanFault::TooManyPipes(1_001_000)),
+    ];
+    let lines = lines_of(rt.alloc(), &statuses)?;
+    let expected = "\
+modelnet: topology: bad byte at 8
+modelnet: topology: grammar at 21
+modelnet: topology: too deep at 134
+modelnet: topology: no graph
+modelnet: topology: missing id in node 3
+modelnet: topology: missing bandwidth in edge 4
+modelnet: topology: bad directed in graph
+modelnet: topology: bad address in node 5
+modelnet: topology: too many nodes
+modelnet: topology: too many edge nodes
+modelnet: topology: too many links
+modelnet: topology: id of node 1 is taken
+modelnet: topology: address of node 2 is taken
+modelnet: topology: unknown node in edge 0
+modelnet: topology: loss of edge 6 out of range
+modelnet: plan: 1001000 pipes
 ";
     assert_eq!(rt; lines.as_slice(), expected.as_bytes());
     Ok(())

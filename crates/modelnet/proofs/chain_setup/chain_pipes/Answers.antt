@@ -13,5 +13,5 @@ loop-pipe-preserved c =
       latency_us = c.new.ensures.latency_us ∙ c.from.ensures;
       latency_ticks = c.new.ensures.latency_ticks ∙ ap (λ us. latency_in_ticks us c.args.tick_ns) c.from.ensures;
       queue = c.new.ensures.queue;
-      keep_of_loss = c.new.ensures.keep ∙ c.keep_of_ppm-keep.ensures.value;
+      keep = c.new.ensures.keep ∙ c.keep_of_ppm-keep.ensures.value;
     }))

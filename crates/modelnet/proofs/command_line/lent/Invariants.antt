@@ -1,5 +1,5 @@
 use Rattle.std.proofs.Common.{◌≡◌, map, take, string_bytes}
-use Rattle.modelnet.specs.Words.{texts}
+use Rattle.mn_words.specs.Words.{texts}
 use Rattle.modelnet.proofs.command_line.lent.Given as goal
 
 abbrev pub invariant-loop-word : goal.invariant-loop-word

@@ -1,5 +1,5 @@
 use Rattle.modelnet.specs.TheCommands.{usual_limits}
-use Rattle.modelnet.specs.Words.{texts}
+use Rattle.mn_words.specs.Words.{texts}
 use Rattle.modelnet.proofs.Sound.{is_exact}
 use Rattle.modelnet.proofs.plain.plain.Goals as goal
 

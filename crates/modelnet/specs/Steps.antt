@@ -1,6 +1,0 @@
--- One step after another, each of which may give nothing or a fault: what `?` does in the program.
-use Rattle.std.specs.Prelude.{Option, option_and_then}
-
-infixl 10 ◌>>=◌
-abbrev pub ◌>>=◌ : {A B : Type 0} → Option A → (A → Option B) → Option B
-o >>= f = option_and_then f o
