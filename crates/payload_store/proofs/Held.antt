@@ -130,38 +130,60 @@ pub at_ok : {X E : Type 0} (r : Result X E) (P : Type 0) → false ≡ is_err r 
 at_ok (Ok x) P is_ok holds = holds
 at_ok (Err e) P is_ok holds = absurd (false≢true is_ok)
 
--- with room made for one more, a new packet is taken in
-pub IsStore-put : (es after : Entries) (released now : List ℕ) (length_released length_now capacity room packet : ℕ) (bytes : List ℕ)
+-- a new packet was taken in: room was made for one more, and the map was updated
+pub record TakesIn (es after : Entries) (released now : List ℕ) (length_before length_now room packet : ℕ) (bytes : List ℕ) : Type 0 where
+  pub released_is : now ≡ released
+  pub as_long : length_now ≡ length_before
+  pub fits : length_now + (length es + 1) ≤ room
+  pub not_held : map.get (held_of es) packet ≡ None
+  pub fresh : Among packet released → ⊥
+  pub updates : (q : ℕ) → lookup (eqb q) after ≡ cond (eqb packet q) (Some bytes) (lookup (eqb q) es)
+  pub found : Option (List ℕ)
+  pub found_is : found ≡ lookup (eqb packet) es
+  pub longer : length after ≡ length es + cond (is_some found) 0 1
+
+-- it was not held and not released, and the room counts it
+pub IsStore-put : {es after : Entries} {released now : List ℕ} {length_released length_now capacity room packet : ℕ} {bytes : List ℕ}
     → IsStore es released length_released capacity
-    → now ≡ released → length_now ≡ length_released → length_now + (length es + 1) ≤ room
-    → map.get (held_of es) packet ≡ None → (Among packet released → ⊥)
-    → ((q : ℕ) → lookup (eqb q) after ≡ cond (eqb packet q) (Some bytes) (lookup (eqb q) es))
-    → (found : Option (List ℕ)) → found ≡ lookup (eqb packet) es → length after ≡ length es + cond (is_some found) 0 1
+    → TakesIn es after released now length_released length_now room packet bytes
     → IsStore after now length_now room
-IsStore-put es after released now length_released length_now capacity room packet bytes store same same_length fits not_held fresh updates
-    found is longer = record {
-      once = subst (λ (list : List ℕ). ReleasesOnce (record { held = held_of after; released = list })) (sym same)
-          (subst (λ (held : Held). ReleasesOnce (record { held = held; released = released })) (sym (held-insert es after packet bytes updates))
-          (once-put (held_of es) released packet bytes store.once fresh));
+IsStore-put {es = es} {after = after} {released = released} {length_now = length_now} {room = room} {packet = packet} {bytes = bytes}
+    store it = record {
+      once = subst (λ (list : List ℕ). ReleasesOnce (record { held = held_of after; released = list })) (sym it.released_is)
+          (subst (λ (held : Held). ReleasesOnce (record { held = held; released = released }))
+          (sym (held-insert es after packet bytes it.updates))
+          (once-put (held_of es) released packet bytes store.once it.fresh));
       room =
-          let none : is_some found ≡ false = ap is_some (is ∙ sym (get-held es packet) ∙ not_held) in
-          let one_more : length after ≡ length es + 1 = longer ∙ ap (λ (b : Bool). length es + cond b 0 1) none in
+          let none : is_some it.found ≡ false = ap is_some (it.found_is ∙ sym (get-held es packet) ∙ it.not_held) in
+          let one_more : length after ≡ length es + 1 = it.longer ∙ ap (λ (b : Bool). length es + cond b 0 1) none in
+          let fits : length_now + (length es + 1) ≤ room = it.fits in
           omega arith;
     }
 
--- a packet that is held is released
-pub IsStore-release : (es after : Entries) (released now : List ℕ) (length_released length_now capacity capacity_now packet : ℕ)
+-- a held packet was released: it stands last in the list, and the map has one entry less
+pub record Releases (es after : Entries) (released now : List ℕ) (length_released length_now capacity room packet : ℕ) : Type 0 where
+  pub now_is : now ≡ released ++ packet ∷ []
+  pub longer : length_now ≡ length_released + 1
+  pub room_is : room ≡ capacity
+  pub was_held : IsSome (map.get (held_of es) packet)
+  pub updates : (q : ℕ) → lookup (eqb q) after ≡ cond (eqb packet q) None (lookup (eqb q) es)
+  pub shorter : length after + 1 ≡ length es
+
+-- what the list grew by, the map lost
+pub IsStore-release : {es after : Entries} {released now : List ℕ} {length_released length_now capacity room packet : ℕ}
     → IsStore es released length_released capacity
-    → now ≡ released ++ packet ∷ [] → length_now ≡ length_released + 1 → capacity_now ≡ capacity
-    → IsSome (map.get (held_of es) packet)
-    → ((q : ℕ) → lookup (eqb q) after ≡ cond (eqb packet q) None (lookup (eqb q) es))
-    → length after + 1 ≡ length es
-    → IsStore after now length_now capacity_now
-IsStore-release es after released now length_released length_now capacity capacity_now packet store is_now longer same is_held updates
-    shorter = record {
-      once = subst (λ (list : List ℕ). ReleasesOnce (record { held = held_of after; released = list })) (sym is_now)
+    → Releases es after released now length_released length_now capacity room packet
+    → IsStore after now length_now room
+IsStore-release {es = es} {after = after} {released = released} {length_released = length_released} {length_now = length_now}
+    {capacity = capacity} {room = room} {packet = packet} store it = record {
+      once = subst (λ (list : List ℕ). ReleasesOnce (record { held = held_of after; released = list })) (sym it.now_is)
           (subst (λ (held : Held). ReleasesOnce (record { held = held; released = released ++ packet ∷ [] }))
-          (sym (held-remove es after packet updates))
-          (once-release (held_of es) released packet store.once is_held));
-      room = let before : length_released + length es ≤ capacity = store.room in omega arith;
+          (sym (held-remove es after packet it.updates))
+          (once-release (held_of es) released packet store.once it.was_held));
+      room =
+          let before : length_released + length es ≤ capacity = store.room in
+          let longer : length_now ≡ length_released + 1 = it.longer in
+          let same : room ≡ capacity = it.room_is in
+          let shorter : length after + 1 ≡ length es = it.shorter in
+          omega arith;
     }

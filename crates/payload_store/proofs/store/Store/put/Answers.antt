@@ -8,16 +8,19 @@ use Rattle.payload_store.proofs.store.Store.put.Goals as goal
 
 pub invariant_of-self-in-Ok : goal.invariant_of-self-in-Ok
 invariant_of-self-in-Ok c =
-    IsStore-put c.self.inside.payloads.entries c.insert.new.self.entries c.self.inside.released.items c.reserve.new.self.items _ _ _ _
-    c.args.packet c.args.bytes c.self.invariant
-    c.reserve.ensures.items c.reserve.ensures.len
-    (at_ok c.reserve.result _ c.if-is_err.ensures.value
-    (subst (λ (n : ℕ). OnOk c.reserve.result (vec_len c.reserve.new.self + (n + 1) ≤ vec_capacity c.reserve.new.self))
-    c.len.ensures.len c.reserve.ensures.ok))
-    (ap (λ (s : StoreView). map.get s.held c.args.packet) c.self.view_is ∙ c.requires.not_held)
-    (subst (λ (s : StoreView). Among c.args.packet s.released → ⊥) (sym c.self.view_is) c.requires.not_released)
-    c.in-Ok.ensures.updates.0
-    c.in-Ok.field-0 c.in-Ok.ensures.old c.in-Ok.ensures.len
+    IsStore-put c.self.invariant (record {
+      released_is = c.reserve.ensures.items;
+      as_long = c.reserve.ensures.len;
+      fits = at_ok c.reserve.result _ c.if-is_err.ensures.value
+          (subst (λ (n : ℕ). OnOk c.reserve.result (vec_len c.reserve.new.self + (n + 1) ≤ vec_capacity c.reserve.new.self))
+          c.len.ensures.len c.reserve.ensures.ok);
+      not_held = ap (λ (s : StoreView). map.get s.held c.args.packet) c.self.view_is ∙ c.requires.not_held;
+      fresh = subst (λ (s : StoreView). Among c.args.packet s.released → ⊥) (sym c.self.view_is) c.requires.not_released;
+      updates = c.in-Ok.ensures.updates.0;
+      found = c.in-Ok.field-0;
+      found_is = c.in-Ok.ensures.old;
+      longer = c.in-Ok.ensures.len;
+    })
 
 pub returns-in-Ok-clause-held : goal.returns-in-Ok-clause-held
 returns-in-Ok-clause-held c =

@@ -9,12 +9,14 @@ use Rattle.payload_store.proofs.store.Store.release.Goals as goal
 
 pub invariant_of-self : goal.invariant_of-self
 invariant_of-self c =
-    IsStore-release c.self.inside.payloads.entries c.remove.new.self.entries c.self.inside.released.items c.push_reserved.new.self.items _
-    _ _ _ c.args.packet c.self.invariant
-    c.push_reserved.ensures.items c.push_reserved.ensures.len c.push_reserved.ensures.capacity
-    (subst (λ (s : StoreView). IsSome (map.get s.held c.args.packet)) (sym c.self.view_is) c.requires)
-    c.in-Some.ensures.updates.0
-    c.in-Some.ensures.len
+    IsStore-release c.self.invariant (record {
+      now_is = c.push_reserved.ensures.items;
+      longer = c.push_reserved.ensures.len;
+      room_is = c.push_reserved.ensures.capacity;
+      was_held = subst (λ (s : StoreView). IsSome (map.get s.held c.args.packet)) (sym c.self.view_is) c.requires;
+      updates = c.in-Some.ensures.updates.0;
+      shorter = c.in-Some.ensures.len;
+    })
 
 pub unreachable-requires : goal.unreachable-requires
 unreachable-requires c =
