@@ -1,4 +1,4 @@
-ghost use Rattle.std.specs.Prelude.{◌≡◌, ◌∷◌, ◌+◌, ◌<◌, ◌≤◌, ◌%◌, ◌↔◌, [], length, ℕ, slice_index_or, IsTrue, IfOk, MatchOption, OnOk, OnErr, slice_get};
+ghost use Rattle.std.specs.Prelude.{◌≡◌, ◌∷◌, ◌+◌, ◌<◌, ◌≤◌, ◌%◌, ◌↔◌, [], length, ℕ, slice_index_or, max, IsTrue, IfOk, IfSome, MatchOption, OnOk, OnErr, slice_get};
 ghost use Rattle.deadline_heap.specs.Bits.{IsClear, IsFirstSet, ring_bit};
 ghost use Rattle.mn_base.specs.Among.{Among};
 ghost use Rattle.mn_base.specs.declared.due.Due.{Due};
@@ -92,7 +92,8 @@ impl Wheel {
 
     /// Takes the first visit out. Its tick is the base from now on.
     pub(crate) fn pop(&mut self) -> Option<Due>
-        ensures { MatchOption result (self.old.visits ≡ []) (λ due. self.old.visits ≡ due ∷ self.new.visits) }
+        ensures visits { MatchOption result (self.old.visits ≡ []) (λ due. self.old.visits ≡ due ∷ self.new.visits) }
+        ensures base { IfSome result (λ due. self.new.base ≡ due.tick) }
     {
         let ahead = steps_ahead(&self.marks, self.base)?;
         let tick = self.base + ahead;
@@ -107,7 +108,8 @@ impl Wheel {
     /// Moves the base up to a tick that is past no visit. A base that is there or further stays.
     pub(crate) fn rise(&mut self, tick: u64)
         requires { (other : Due) → Among other self.old.visits → tick ≤ other.tick }
-        ensures { self.new.visits ≡ self.old.visits }
+        ensures visits { self.new.visits ≡ self.old.visits }
+        ensures base { self.new.base ≡ max self.old.base tick }
     {
         if self.base < tick {
             self.base = tick;
@@ -120,6 +122,7 @@ impl Wheel {
         requires fresh { HasNoneOf due.packet self.old.visits }
         ensures ok { OnOk result (self.new.visits ≡ placed due self.old.visits) }
         ensures err { OnErr result (self.new.visits ≡ self.old.visits) }
+        ensures base { self.new.base ≡ self.old.base }
     {
         let slot = (due.tick % SLOTS) as usize;
         self.slots[slot].put(due.packet, due.hop)?;

@@ -42,7 +42,7 @@ invariant_of-self c =
     (subst (λ (b : Bool). Leads (slice_get c.self.inside.wheel.visits 0) (slice_get c.self.inside.later 0) b c.in_ok-lead.lead.due)
     c.if-lead.true
     (leads_at _ _ c.self.inside.wheel.visits c.self.inside.later _ _ c.first.ensures c.first-2.ensures c.in_ok-lead.ensures))
-    c.pop.ensures
+    c.pop.ensures.visits
 
 pub rise-requires : goal.rise-requires
 rise-requires c =
@@ -51,7 +51,7 @@ rise-requires c =
 
 pub invariant_of-self-else-lead : goal.invariant_of-self-else-lead
 invariant_of-self-else-lead c =
-    subst (λ (l : List Due). AreApart l c.pop-else-lead.new.self) (sym c.rise.ensures)
+    subst (λ (l : List Due). AreApart l c.pop-else-lead.new.self) (sym c.rise.ensures.visits)
     (apart_popped_far _ c.in_ok-lead.lead.due c.self.inside.wheel.visits c.self.inside.later _ c.self.invariant
     (subst (λ (b : Bool). Leads (slice_get c.self.inside.wheel.visits 0) (slice_get c.self.inside.later 0) b c.in_ok-lead.lead.due)
     c.if-lead.false
@@ -68,7 +68,7 @@ returns-then-lead-clause-first c =
     c.if-lead.true
     (leads_at _ _ c.self.inside.wheel.visits c.self.inside.later _ _ c.first.ensures c.first-2.ensures c.in_ok-lead.ensures))
     c.if-lead-limit.false
-    c.pop.ensures)
+    c.pop.ensures.visits)
 
 pub returns-then-lead-clause-canonical : goal.returns-then-lead-clause-canonical
 returns-then-lead-clause-canonical c = subst IsCanonical c.self.view_is
@@ -80,7 +80,7 @@ returns-else-lead-clause-first c =
     (λ due. (l ≡ due ∷ merged c.rise.new.self.visits c.pop-else-lead.new.self) × (due.tick < c.args.limit))) c.self.view_is
     (subst (λ (near : List Due). IfSome c.pop-else-lead.result
     (λ due. (merged c.self.inside.wheel.visits c.self.inside.later ≡ due ∷ merged near c.pop-else-lead.new.self) ×
-    (due.tick < c.args.limit))) (sym c.rise.ensures)
+    (due.tick < c.args.limit))) (sym c.rise.ensures.visits)
     (popped_far c.pop-else-lead.result c.in_ok-lead.lead.due c.args.limit c.self.inside.wheel.visits c.self.inside.later
     c.pop-else-lead.new.self c.self.invariant
     (subst (λ (b : Bool). Leads (slice_get c.self.inside.wheel.visits 0) (slice_get c.self.inside.later 0) b c.in_ok-lead.lead.due)

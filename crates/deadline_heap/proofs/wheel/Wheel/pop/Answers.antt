@@ -7,8 +7,8 @@ use Rattle.deadline_heap.proofs.Ring.{no_visit, tick_fits}
 use Rattle.deadline_heap.proofs.Turning.{slot_at, slot_of-set_same, visits_from-popped, IsWheel-popped}
 use Rattle.deadline_heap.proofs.wheel.Wheel.pop.Goals as goal
 
-pub returns-in_err-ahead : goal.returns-in_err-ahead
-returns-in_err-ahead c =
+pub returns-in_err-ahead-clause-visits : goal.returns-in_err-ahead-clause-visits
+returns-in_err-ahead-clause-visits c =
     rw c.from_residual.ensures
     (sym (ap (λ (v : WheelView). v.visits) c.self.view_is)
     ∙ no_visit c.self.inside.slots.items c.self.inside.marks c.self.inside.base c.self.invariant c.in_err-ahead.ensures)
@@ -31,8 +31,8 @@ invariant_of-self-2 c =
     (c.index.ensures ∙ slot_at _ _ _ (length-set _ _ _ ∙ c.self.invariant.count) ∙ slot_of-set_same _ _ _ c.self.invariant.count)))
     c.unmark.ensures.others
 
-pub returns : goal.returns
-returns c =
+pub returns-clause-visits : goal.returns-clause-visits
+returns-clause-visits c =
     sym (ap (λ (v : WheelView). v.visits) c.self.view_is)
     ∙ visits_from-popped c.self.inside.slots.items c.self.inside.marks c.self.inside.base c.in_ok-ahead.ahead
     (c.in_ok-packet.packet, c.in_ok-packet.hop) c.pop.new.self c.self.invariant c.in_ok-ahead.ensures

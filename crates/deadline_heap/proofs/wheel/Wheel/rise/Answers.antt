@@ -10,8 +10,8 @@ invariant_of-self c =
     (λ due there. c.requires due (subst (λ (v : WheelView). Among due v.visits) c.self.view_is there))
     c.self.invariant
 
-pub returns-then-self-tick : goal.returns-then-self-tick
-returns-then-self-tick c =
+pub returns-then-self-tick-clause-visits : goal.returns-then-self-tick-clause-visits
+returns-then-self-tick-clause-visits c =
     sym (rises_to c.self.inside.slots.items c.self.inside.base c.args.tick (omega arith)
     (λ due there. c.requires due (subst (λ (v : WheelView). Among due v.visits) c.self.view_is there)))
     ∙ ap (λ (v : WheelView). v.visits) c.self.view_is
