@@ -1,0 +1,10 @@
+pub mod EntrySteps
+pub mod FieldsBack
+pub mod Finds
+pub mod LinesBack
+pub mod LinesRead
+pub mod NoFault
+pub mod Printed
+pub mod Readings
+pub mod Numbers
+pub mod PrintingSteps

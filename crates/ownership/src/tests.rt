@@ -1,0 +1,205 @@
+use crate::{AssignFault, Directory, print_directory, read_directory};
+use distill::{Distilled, Mode, distill};
+use mn_base::Refusal;
+use std::alloc::Global;
+use std::process::Abort;
+use std::test::Fail;
+use topo::{EdgeSpec, Node, TopoFault, Topology};
+
+const EDGE: EdgeSpec = EdgeSpec {
+    source: 0,
+    target: 2,
+    bps: 8_000_000,
+    latency_us: 5_000,
+    queue: 50,
+    ppm: 0,
+};
+
+fn topology_of(
+    alloc: Global,
+    addresses: &[Option<u32>],
+    ends: &[(u64, u64)],
+) -> Result<Topology, Refusal<TopoFault>> {
+    let mut nodes = Vec::new(alloc);
+    for (id, address) in addresses.iter().enumerate() {
+        nodes.push(Node {
+            id: id as u64,
+            address: *address,
+        })?;
+    }
+    let mut edges = Vec::new(alloc);
+    for (source, target) in ends {
+        edges.push(EdgeSpec {
+            source: *source,
+            target: *target,
+            ..EDGE
+        })?;
+    }
+    if nodes.len() > 10 || edges.len() > 10 {
+        return Err(Refusal::NoMemory);
+    }
+    Topology::new(alloc, nodes, edges, false)
+}
+
+/// Nodes 0, 1 and 3 around node 2, which has no address; six pipes.
+fn star(alloc: Global) -> Result<Distilled, Fail> {
+    let addresses = [Some(1), Some(2), None, Some(3)];
+    let topology = topology_of(alloc, &addresses, &[(0, 2), (1, 2), (2, 3)])?;
+    Ok(distill(alloc, &topology, Mode::Hop, 100_000)?)
+}
+
+/// The directory of the star that three cores share.
+const STAR: &[u8] = b"modelnet-directory 1 cores 3 pipes 6\n\
+    pipe 0 core 0\n\
+    pipe 1 core 0\n\
+    pipe 2 core 1\n\
+    pipe 3 core 1\n\
+    pipe 4 core 2\n\
+    pipe 5 core 2\n";
+
+fn read(
+    rt: &impl Abort,
+    alloc: Global,
+    text: &[u8],
+    distilled: &Distilled,
+) -> Result<Directory, Refusal<AssignFault>> {
+    assert!(rt; text.len() < 1000);
+    read_directory(alloc, text, distilled, 3)
+}
+
+#[test]
+fn a_directory_is_read_and_printed(rt: HostRuntime) -> Result<(), Fail> {
+    let distilled = star(rt.alloc())?;
+    let directory = read(&rt, rt.alloc(), STAR, &distilled)?;
+    let text = print_directory(rt.alloc(), &directory)?;
+    assert_eq!(rt; text.as_slice(), STAR);
+    Ok(())
+}
+
+#[test]
+fn lines_in_any_order_and_the_last_without_its_feed(rt: HostRuntime) -> Result<(), Fail> {
+    let distilled = star(rt.alloc())?;
+    let text = b"modelnet-directory 1 cores 03 pipes 6\n\
+        pipe 5 core 2\n\
+        pipe 4 core 002\n\
+        pipe 3 core 1\n\
+        pipe 2 core 1\n\
+        pipe 1 core 0\n\
+        pipe 0 core 0";
+    let directory = read(&rt, rt.alloc(), text, &distilled)?;
+    let text = print_directory(rt.alloc(), &directory)?;
+    assert_eq!(rt; text.as_slice(), STAR);
+    Ok(())
+}
+
+fn fault_of(
+    rt: &impl Abort,
+    alloc: Global,
+    text: &[u8],
+    distilled: &Distilled,
+) -> Option<AssignFault> {
+    match read(rt, alloc, text, distilled) {
+        Err(Refusal::Fault(fault)) => Some(fault),
+        _ => None,
+    }
+}
+
+/// The fault of a text whose first line and two lines behind it are these, and that ends with the given lines of `STAR`.
+fn fault_of_lines(
+    rt: &impl Abort,
+    alloc: Global,
+    lines: [&[u8]; 3],
+    rest: &[u8],
+) -> Result<Option<AssignFault>, Fail> {
+    let distilled = star(alloc)?;
+    let mut text = Vec::new(alloc);
+    for line in &lines {
+        text.extend_from_slice(line)?;
+        text.push(b'\n')?;
+    }
+    text.extend_from_slice(rest)?;
+    Ok(fault_of(rt, alloc, &text, &distilled))
+}
+
+#[test]
+fn the_first_fault(rt: HostRuntime) -> Result<(), Fail> {
+    const HEAD: &[u8] = b"modelnet-directory 1 cores 3 pipes 6";
+    const ALL: &[u8] = b"pipe 2 core 1\npipe 3 core 1\npipe 4 core 2\npipe 5 core 2\n";
+    const LAST_MISSING: &[u8] = b"pipe 2 core 1\npipe 3 core 1\npipe 4 core 2\n";
+    let first = b"pipe 0 core 0".as_slice();
+    let second = b"pipe 1 core 0".as_slice();
+    for (lines, rest, fault) in [
+        ([HEAD, first, second], ALL, None),
+        (
+            [
+                b"modelnet-directory 1 cores 2 pipes 6".as_slice(),
+                first,
+                second,
+            ],
+            ALL,
+            Some(AssignFault::Head),
+        ),
+        (
+            [
+                b"modelnet-directory 1 cores 3 pipes 5".as_slice(),
+                first,
+                second,
+            ],
+            ALL,
+            Some(AssignFault::Head),
+        ),
+        (
+            [b"".as_slice(), first, second],
+            ALL,
+            Some(AssignFault::Head),
+        ),
+        (
+            [HEAD, b"pipe 9 core 0".as_slice(), second],
+            ALL,
+            Some(AssignFault::Line(2)),
+        ),
+        (
+            [HEAD, b"pipe 0  core 0".as_slice(), second],
+            ALL,
+            Some(AssignFault::Line(2)),
+        ),
+        (
+            [HEAD, b"".as_slice(), second],
+            ALL,
+            Some(AssignFault::Line(2)),
+        ),
+        (
+            [HEAD, b"pipe 0 core 3".as_slice(), second],
+            ALL,
+            Some(AssignFault::Core(2)),
+        ),
+        (
+            [HEAD, first, b"pipe 0 core 0".as_slice()],
+            ALL,
+            Some(AssignFault::Twice(3)),
+        ),
+        (
+            [HEAD, first, second],
+            LAST_MISSING,
+            Some(AssignFault::Missing(5)),
+        ),
+        (
+            [HEAD, first, b"pipe 5 core 0".as_slice()],
+            LAST_MISSING,
+            Some(AssignFault::Missing(1)),
+        ),
+    ] {
+        assert_eq!(rt; fault_of_lines(&rt, rt.alloc(), lines, rest)?, fault);
+    }
+    Ok(())
+}
+
+#[test]
+fn an_empty_text(rt: HostRuntime) -> Result<(), Fail> {
+    let distilled = star(rt.alloc())?;
+    assert_eq!(rt;
+        fault_of(&rt, rt.alloc(), b"", &distilled),
+        Some(AssignFault::Head)
+    );
+    Ok(())
+}
