@@ -73,7 +73,7 @@ find-push p (x ∷ xs) o = go (p x) (find-push p xs o)
     go true later = refl
     go false later = later
 
-is_owned-push : (owned : List Owned) (o : Owned) (q : ℕ) → is_owned (owned ++ o ∷ []) q ≡ (is_owned owned q || o.pipe == q)
+pub is_owned-push : (owned : List Owned) (o : Owned) (q : ℕ) → is_owned (owned ++ o ∷ []) q ≡ (is_owned owned q || o.pipe == q)
 is_owned-push [] o q = go (o.pipe == q)
   where
     go : (b : Bool) → (b || false) ≡ b

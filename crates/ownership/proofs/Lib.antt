@@ -8,3 +8,12 @@ pub mod Printed
 pub mod Readings
 pub mod Numbers
 pub mod PrintingSteps
+pub mod NearSteps
+pub mod Reaches
+pub mod Rows
+pub mod NodeAdded
+pub mod TurnSteps
+pub mod EachOnce
+pub mod Giving
+pub mod Places
+pub mod Taking

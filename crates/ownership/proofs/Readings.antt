@@ -199,7 +199,7 @@ Answered text d cores =
     ((directory : DirectoryView) × Directs text d cores directory) ⊎ ((fault : AssignFault) × DirectoryFirst text d cores fault)
 
 -- the owner of an owned pipe stands among the owners
-owner_there : (owned : List Owned) (q : ℕ) → is_owned owned q ≡ true → Among (record { pipe = q; core = owner_in owned q }) owned
+pub owner_there : (owned : List Owned) (q : ℕ) → is_owned owned q ≡ true → Among (record { pipe = q; core = owner_in owned q }) owned
 owner_there owned q has = go (find (λ o. o.pipe == q) owned) refl
   where
     go : (x : Option Owned) → find (λ o. o.pipe == q) owned ≡ x → Among (record { pipe = q; core = option_map_or (λ o. o.core) x 0 }) owned

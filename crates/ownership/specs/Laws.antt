@@ -1,13 +1,26 @@
 -- What holds of the definitions.
-use Rattle.std.specs.Prelude.{ℕ, ◌≡◌, ◌⊎◌, ◌<◌, ◌≤◌, List, length, All}
+use Rattle.std.specs.Prelude.{ℕ, ◌≡◌, ◌≢◌, ◌⊎◌, ◌<◌, ◌≤◌, List, length, All, AllPairs}
 use Rattle.mn_base.specs.declared.limits.TheConstants.{CORES_MAX, PIPES_MAX}
+use Rattle.mn_base.specs.Among.{Among}
 use Rattle.distill.specs.Distilled.{DistilledView}
 use Rattle.ownership.specs.declared.faults.AssignFault.{AssignFault}
 use Rattle.ownership.specs.Directory.{DirectoryView}
 use Rattle.ownership.specs.Entries.{entries_of}
+use Rattle.ownership.specs.Assignment.{Owned, assigned}
 use Rattle.ownership.specs.Texts.{directory_text}
 use Rattle.ownership.specs.Reading.{Directs}
 use Rattle.ownership.specs.Faults.{DirectoryFirst}
+
+-- each pipe is owned once, by a core that there is
+pub record OwnsEachOnce (pipes cores : ℕ) (owned : List Owned) : Type 0 where
+  pub pipes_are : All (λ o. o.pipe < pipes) owned
+  pub cores_are : All (λ o. o.core < cores) owned
+  pub once : AllPairs (λ o p. o.pipe ≢ p.pipe) owned
+  pub each : (q : ℕ) → q < pipes → (core : ℕ) × Among (record { pipe = q; core = core }) owned
+
+-- the assignment gives each pipe one owner
+abbrev pub OneOwner : Type 0
+OneOwner = (d : DistilledView) (cores : ℕ) → 1 ≤ cores → OwnsEachOnce (length d.pipes) cores (assigned d cores)
 
 -- a directory of a distilled topology: its entry cores are those of its owners
 pub record IsDirectoryOf (d : DistilledView) (directory : DirectoryView) : Type 0 where

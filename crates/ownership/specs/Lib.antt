@@ -1,3 +1,4 @@
+pub mod Assignment
 pub mod Owned
 pub mod Directory
 pub mod Entries
@@ -6,3 +7,4 @@ pub mod Laws
 pub mod Owners
 pub mod Reading
 pub mod Texts
+pub mod Turning

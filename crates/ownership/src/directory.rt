@@ -14,7 +14,7 @@ use std::marker::Model;
 pub struct Directory {
     pub(crate) cores: u32,
     pub(crate) owners: Vec<u32>,
-    entries: Vec<u32>,
+    pub(crate) entries: Vec<u32>,
 }
 
 impl Model for Directory {

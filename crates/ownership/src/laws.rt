@@ -1,6 +1,11 @@
 //! What holds of the definitions. A law computes nothing: its clause is the fact.
 
-ghost use Rattle.ownership.specs.Laws.{PrintedReadsBack, EachTextIsAnswered, NeverBoth, OneReading, OneFault};
+ghost use Rattle.ownership.specs.Laws.{OneOwner, PrintedReadsBack, EachTextIsAnswered, NeverBoth, OneReading, OneFault};
+
+/// The assignment gives each pipe one owner, below the number of cores.
+pub fn one_owner()
+    ensures { OneOwner }
+{}
 
 /// What is printed of a directory whose entry cores are those of its owners says that directory.
 pub fn printed_reads_back()

@@ -1,4 +1,4 @@
-use crate::{AssignFault, Directory, print_directory, read_directory};
+use crate::{AssignFault, Directory, assign, print_directory, read_directory};
 use distill::{Distilled, Mode, distill};
 use mn_base::Refusal;
 use std::alloc::Global;
@@ -201,5 +201,87 @@ fn an_empty_text(rt: HostRuntime) -> Result<(), Fail> {
         fault_of(&rt, rt.alloc(), b"", &distilled),
         Some(AssignFault::Head)
     );
+    Ok(())
+}
+
+#[test]
+fn owners_and_entry_cores(rt: HostRuntime) -> Result<(), Fail> {
+    let distilled = star(rt.alloc())?;
+    let directory = read(&rt, rt.alloc(), STAR, &distilled)?;
+    assert!(rt; directory.owners.len() == 6);
+    for (pipe, core) in [(0, 0), (1, 0), (2, 1), (3, 1), (4, 2), (5, 2)] {
+        assert_eq!(rt; directory.owner(pipe), core);
+    }
+    assert!(rt; directory.entries.len() == 4);
+    for (node, core) in [(0, 0), (1, 1), (2, 0), (3, 2)] {
+        assert_eq!(rt; directory.entry(node), core);
+    }
+    Ok(())
+}
+
+/// Two stubs of two nodes with addresses each, around nodes 2 and 3, and a link between these; ten pipes where it is walked out.
+fn two_stubs(alloc: Global) -> Result<Distilled, Fail> {
+    let addresses = [Some(1), Some(2), None, None, Some(3), Some(4)];
+    let edges = [(0, 2), (1, 2), (2, 3), (3, 4), (3, 5)];
+    let topology = topology_of(alloc, &addresses, &edges)?;
+    Ok(distill(alloc, &topology, Mode::Walk(1), 100_000)?)
+}
+
+#[test]
+fn two_cores_share_two_stubs(rt: HostRuntime) -> Result<(), Fail> {
+    let distilled = two_stubs(rt.alloc())?;
+    let directory = assign(rt.alloc(), &distilled, 2)?;
+    let text = print_directory(rt.alloc(), &directory)?;
+    let expected = b"modelnet-directory 1 cores 2 pipes 10\n\
+        pipe 0 core 0\n\
+        pipe 1 core 0\n\
+        pipe 2 core 0\n\
+        pipe 3 core 0\n\
+        pipe 4 core 1\n\
+        pipe 5 core 1\n\
+        pipe 6 core 1\n\
+        pipe 7 core 1\n\
+        pipe 8 core 0\n\
+        pipe 9 core 1\n";
+    assert_eq!(rt; text.as_slice(), expected.as_slice());
+    Ok(())
+}
+
+#[test]
+fn each_of_three_cores_takes_its_arm_of_the_star(rt: HostRuntime) -> Result<(), Fail> {
+    let distilled = star(rt.alloc())?;
+    let directory = assign(rt.alloc(), &distilled, 3)?;
+    let text = print_directory(rt.alloc(), &directory)?;
+    assert_eq!(rt; text.as_slice(), STAR);
+    Ok(())
+}
+
+/// The owners of the pipes of a topology of links, kept link by link, that three cores share.
+fn owners(alloc: Global, addresses: &[Option<u32>], ends: &[(u64, u64)]) -> Result<Vec<u32>, Fail> {
+    let topology = topology_of(alloc, addresses, ends)?;
+    let distilled = distill(alloc, &topology, Mode::Hop, 100_000)?;
+    Ok(assign(alloc, &distilled, 3)?.owners)
+}
+
+#[test]
+fn fewer_pipes_than_cores(rt: HostRuntime) -> Result<(), Fail> {
+    let owners = owners(rt.alloc(), &[Some(1), Some(2)], &[(0, 1)])?;
+    assert_eq!(rt; owners.as_slice(), [0, 1].as_slice());
+    Ok(())
+}
+
+#[test]
+fn no_pipes(rt: HostRuntime) -> Result<(), Fail> {
+    let owners = owners(rt.alloc(), &[Some(1), Some(2)], &[])?;
+    assert_eq!(rt; owners.len(), 0);
+    Ok(())
+}
+
+/// A core that reaches nothing takes the least pipe of all, and from then on those that it reaches.
+#[test]
+fn no_node_has_an_address(rt: HostRuntime) -> Result<(), Fail> {
+    let edges = [(0, 1), (2, 3), (1, 4)];
+    let owners = owners(rt.alloc(), &[None, None, None, None, None], &edges)?;
+    assert_eq!(rt; owners.as_slice(), [0, 1, 2, 2, 0, 1].as_slice());
     Ok(())
 }
