@@ -65,12 +65,12 @@ visits_from-popped slots words base ahead entry rest inside first here =
         sym (slot_of-set_other slots tick t rest (apart_in_turn tick tick t from to from_t to_t differ))
 
 -- a bit still says whether its slot has an entry, where the slot's own is cleared if nothing is left in it
-pub IsWheel-popped : (slots : Slots) (words after : List ℕ) (base ahead : ℕ) (entry : ℕ × ℕ) (rest : List (ℕ × ℕ))
+pub IsWheel-popped : {slots : Slots} {words : List ℕ} (after : List ℕ) {base ahead : ℕ} {entry : ℕ × ℕ} {rest : List (ℕ × ℕ)}
     → IsWheel slots words base → IsFirstSet (ring_bit words base) 0 SLOTS ahead → slot_of slots (base + ahead) ≡ entry ∷ rest
     → bit_of after ((base + ahead) % SLOTS) ≡ (if (length rest == 0) then 0 else bit_of words ((base + ahead) % SLOTS))
     → ((other : ℕ) → other ≢ (base + ahead) % SLOTS → bit_of after other ≡ bit_of words other)
     → IsWheel (slice_set slots ((base + ahead) % SLOTS) rest) after (base + ahead)
-IsWheel-popped slots words after base ahead entry rest inside first here bit others = record {
+IsWheel-popped {slots} {words} after {base} {ahead} {entry} {rest} inside first here bit others = record {
   count = length-set slots (tick % SLOTS) rest ∙ inside.count;
   empty = λ t clear. empty_at t clear (cases_eq (t % SLOTS) (tick % SLOTS));
   used = λ t set_there. used_at t set_there (cases_eq (t % SLOTS) (tick % SLOTS));
@@ -229,13 +229,13 @@ entered-some entry (e ∷ es) = go (nat_lt entry.0 e.0)
     go true = omega arith
     go false = omega arith
 
-pub IsWheel-inserted : (slots : Slots) (words after : List ℕ) (base : ℕ) (due : Due) (entries : List (ℕ × ℕ))
+pub IsWheel-inserted : {slots : Slots} {words : List ℕ} (after : List ℕ) {base : ℕ} (due : Due) {entries : List (ℕ × ℕ)}
     → IsWheel slots words base → IsAhead base due.tick → due.tick < 2 ^ 64
     → entries ≡ entered (due.packet, due.hop) (slot_of slots due.tick)
     → bit_of after (due.tick % SLOTS) ≡ 1
     → ((other : ℕ) → other ≢ due.tick % SLOTS → bit_of after other ≡ bit_of words other)
     → IsWheel (slice_set slots (due.tick % SLOTS) entries) after base
-IsWheel-inserted slots words after base due entries inside ahead fits is bit others = record {
+IsWheel-inserted {slots} {words} after {base} due {entries} inside ahead fits is bit others = record {
   count = length-set slots (due.tick % SLOTS) entries ∙ inside.count;
   empty = λ t clear. empty_at t clear (cases_eq (t % SLOTS) (due.tick % SLOTS));
   used = λ t one. used_at t one (cases_eq (t % SLOTS) (due.tick % SLOTS));

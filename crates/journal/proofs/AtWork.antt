@@ -110,21 +110,34 @@ changes-rise S is pipe i j d less within =
 
 -- ---- a pipe without visits
 
-pub idle-is : (S : SetupView) (number : ℕ) (memory : PipeView) (words : PipeWordsView) (first : PipeParams) (changes : List (ℕ × PipeParams))
-    (tick_ns seed : ℕ) → memory ≡ idle_view first changes tick_ns → StandsFor memory [] → words ≡ record { seed = seed; pipe = number }
-    → slice_get S.pipes number ≡ Some first → changes ≡ changes_of S number → tick_ns ≡ S.tick_ns → seed ≡ S.seed
+-- what the parts of a pipe without visits were made of
+pub record IsIdle (S : SetupView) (number : ℕ) (memory : PipeView) (words : PipeWordsView) : Type 0 where
+  pub first : PipeParams
+  pub changes : List (ℕ × PipeParams)
+  pub tick_ns : ℕ
+  pub seed : ℕ
+  pub idle : memory ≡ idle_view first changes tick_ns
+  pub stands : StandsFor memory []
+  pub words_are : words ≡ record { seed = seed; pipe = number }
+  pub first_is : slice_get S.pipes number ≡ Some first
+  pub changes_are : changes ≡ changes_of S number
+  pub tick_is : tick_ns ≡ S.tick_ns
+  pub seed_is : seed ≡ S.seed
+
+pub idle-is : {S : SetupView} {number : ℕ} {memory : PipeView} {words : PipeWordsView} → IsIdle S number memory words
     → IsPipe S [] number (record { number = words.pipe; seed = words.seed; memory = memory })
-idle-is S number memory words first changes tick_ns seed idle stands made first_is changes_is tick_is seed_is =
-    let named : words.pipe ≡ number = ap (λ (w : PipeWordsView). w.pipe) made in
+idle-is {S} {number} {memory} {words} made =
+    let named : words.pipe ≡ number = ap (λ (w : PipeWordsView). w.pipe) made.words_are in
     record {
       number = named;
       of_setup = record {
-        seed = ap (λ (w : PipeWordsView). w.seed) made ∙ seed_is;
+        seed = ap (λ (w : PipeWordsView). w.seed) made.words_are ∙ made.seed_is;
         first =
-            ap (λ (k : PipeView). k.first) idle ∙ sym (ap (λ (o : Option PipeParams). unwrap_or o no_params) first_is)
+            ap (λ (k : PipeView). k.first) made.idle
+            ∙ sym (ap (λ (o : Option PipeParams). unwrap_or o no_params) made.first_is)
             ∙ ap (first_params S) (sym named);
-        changes = ap (λ (k : PipeView). k.changes) idle ∙ changes_is ∙ ap (changes_of S) (sym named);
-        tick_ns = ap (λ (k : PipeView). k.tick_ns) idle ∙ tick_is;
+        changes = ap (λ (k : PipeView). k.changes) made.idle ∙ made.changes_are ∙ ap (changes_of S) (sym named);
+        tick_ns = ap (λ (k : PipeView). k.tick_ns) made.idle ∙ made.tick_is;
       };
-      stands = stands;
+      stands = made.stands;
     }

@@ -62,10 +62,10 @@ entered-none S n held p h here none = record {
         cc
 
 -- a packet with a route
-pub entered-some : (S : SetupView) (n : ℕ) (old new : List DueVisit) (p : PacketPlan) (w : DueVisit) → HaveEntered S n old
+pub entered-some : {S : SetupView} {n : ℕ} {old new : List DueVisit} {p : PacketPlan} {w : DueVisit} → HaveEntered S n old
     → slice_get S.packets n ≡ Some p → Some w.due ≡ entry S p → IsIndexed S w
     → ((other : DueVisit) → Among other new ↔ ((w ≡ other) ⊎ Among other old)) → HaveEntered S (n + 1) new
-entered-some S n old new p w h here first is_indexed adds = record {
+entered-some {S} {n} {old} {new} {p} {w} h here first is_indexed adds = record {
   indexed = λ u a. ⊎_elim (λ e. subst (IsIndexed S) e is_indexed) (λ b. h.indexed u b) ((adds u).0 a);
   first = λ u a. ⊎_elim
       (λ e. subst (IsFirstBelow S (n + 1)) e (record { index = n; plan = p; below = omega arith; at = here; due = sym first }))

@@ -1,5 +1,5 @@
 -- How the first visits in order and the heap of later ones give the due visits in canonical order.
-use Rattle.std.proofs.Common.{◌≡◌, ◌≢◌, ◌⊎◌, inl, inr, ⊎_elim, ℕ, zero, suc, ◌+◌, ◌<◌, ◌≤◌, Bool, true, false, cond, not, List, [], ◌∷◌, ◌++◌, length, get_or, drop, sum_by, All, AllPairs, Contains, Option, Some, None, Bor, IsSome, IfSome, is_some, nat_lt, refl, sym, ap, ◌∙◌, subst, arith, true≢false, add-one, append-nil}
+use Rattle.std.proofs.Common.{◌≡◌, ◌≢◌, ◌⊎◌, inl, inr, ⊎_elim, ℕ, zero, suc, ◌+◌, ◌<◌, ◌≤◌, Bool, true, false, cond, not, List, [], ◌∷◌, ◌++◌, length, get_or, drop, sum_by, All, AllPairs, Option, Some, None, Bor, IsSome, IfSome, is_some, nat_lt, refl, sym, ap, ◌∙◌, subst, arith, true≢false, add-one, append-nil}
 use Rattle.std.specs.Prelude.{◌↔◌}
 use Rattle.std.specs.Option.{option_copied}
 use Rattle.std.specs.declared.cmp.Ordering.{Ordering}
@@ -451,22 +451,32 @@ top-same rs rest r copied top copies looked some moved is = copies ∙ go r look
     go None at none = absurd (false≢true none)
     go (Some b) at none = ap Some (at ∙ get_or_default rs 0 b.now top full ∙ sym is)
 
+-- no first visit came before the top of the heap: what was read of both
+pub record NoneIsEarly (firsts : List DueVisit) (next : ℕ) (top : Reverse HeapEntry) : Type 0 where
+  pub read : Option (Bor DueVisit)
+  pub copied : Option DueVisit
+  pub later : Option (Reverse HeapEntry)
+  pub copies : copied ≡ option_copied read
+  pub within : is_some read ≡ nat_lt next (length firsts)
+  pub reads : IfSome read (λ x. x.now ≡ get_or firsts next x.now)
+  pub looked : later ≡ Some top
+  pub none : None ≡ early_of copied later
+
 -- and it is before all first visits that are held, if none of them came first
-pub late-ahead : (firsts : List DueVisit) (next : ℕ) (r : Option (Bor DueVisit)) (copied : Option DueVisit) (later : Option (Reverse HeapEntry))
-    (top : Reverse HeapEntry)
-    → AllPairs (λ v w. Before v.due w.due) firsts → copied ≡ option_copied r → is_some r ≡ nat_lt next (length firsts)
-    → IfSome r (λ x. x.now ≡ get_or firsts next x.now) → later ≡ Some top → None ≡ early_of copied later
-    → (w : DueVisit) → Among w (drop next firsts) → Before (due_from_entry top.0).due w.due
-late-ahead firsts next r None later top rising copies within reads looked none w among =
-    absurd (subst (Among w) (read-no_first firsts next r None copies refl within) among)
-late-ahead firsts next r (Some first) later top rising copies within reads looked none w among =
-    let read = read-first firsts next r (Some first) first copies refl within reads in
-    late-first firsts next first top rising read.0 read.1
-    (go (is_before (due_from_entry top.0).due first.due) (none ∙ ap (early_of (Some first)) looked)) w among
+pub late-ahead : {firsts : List DueVisit} {next : ℕ} {top : Reverse HeapEntry} → AllPairs (λ v w. Before v.due w.due) firsts
+    → NoneIsEarly firsts next top → (w : DueVisit) → Among w (drop next firsts) → Before (due_from_entry top.0).due w.due
+late-ahead {firsts} {next} {top} rising is w among = from is.copied is.copies (is.none ∙ ap (early_of is.copied) is.looked)
   where
-    go : (b : Bool) → None ≡ cond (not b) (Some first) None → b ≡ true
-    go true e = refl
-    go false e = cc
+    go : (first : DueVisit) (b : Bool) → None ≡ cond (not b) (Some first) None → b ≡ true
+    go first true e = refl
+    go first false e = cc
+
+    from : (copied : Option DueVisit) → copied ≡ option_copied is.read → None ≡ early_of copied (Some top)
+        → Before (due_from_entry top.0).due w.due
+    from None copies none = absurd (subst (Among w) (read-no_first firsts next is.read None copies refl is.within) among)
+    from (Some first) copies none =
+        let read = read-first firsts next is.read (Some first) first copies refl is.within is.reads in
+        late-first firsts next first top rising read.0 read.1 (go first (is_before (due_from_entry top.0).due first.due) none) w among
 
 -- with an empty heap all first visits are held, and no other
 pub held-firsts : (ws : List DueVisit) (rs : List (Reverse HeapEntry)) → rs ≡ [] → drop 0 ws ++ later_visits rs ≡ ws

@@ -47,8 +47,8 @@ packet-short S is p known =
 -- the same, read out of a list whose elements hold the routes
 pub route-read : {X : Type 0} (items : X → List ℕ) (xs : List X) (S : SetupView) → IsSetup S → (p : PacketPlan)
     → packet_of S p.number ≡ Some p
-    → map items xs ≡ S.routes → (x : X) → x ≡ slice_index_or xs p.route x → (route : List ℕ) → route ≡ items x → HasRoute S p route
-route-read items xs S is p known same x read route value =
+    → map items xs ≡ S.routes → {x : X} → x ≡ slice_index_or xs p.route x → {route : List ℕ} → route ≡ items x → HasRoute S p route
+route-read items xs S is p known same {x} read {route} value =
     let has = packet-route S is p known in
     let within : p.route < length xs = omega (arith, length-map xs items, ap length same, has.within) in
     let here : route ≡ slice_index_or S.routes p.route [] =

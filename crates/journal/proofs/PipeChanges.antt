@@ -105,11 +105,11 @@ named-list S is n lists c are within read =
     let named = is.changes_named n c within in
     omega (arith, named, ap (λ (x : PipeChange). x.pipe) read, are.count, length-map lists (λ (list : Changes). list.items))
 
-pub put-more : (S : SetupView) → IsSetup S → (n : ℕ) (lists : List Changes) (c : PipeChange) (own new : Changes)
+pub put-more : {S : SetupView} → IsSetup S → {n : ℕ} (lists : List Changes) {c : PipeChange} {own : Changes} (new : Changes)
     → AreChangesOf (front_of S n) (items_of lists) → n < length S.changes → c ≡ get_or S.changes n c
     → own ≡ get_or lists c.pipe own → new.items ≡ own.items ++ timed c ∷ []
     → AreChangesOf (front_of S (n + 1)) (items_of (set lists c.pipe new))
-put-more S is n lists c own new are within read own_is pushed =
+put-more {S} is {n} lists {c} {own} new are within read own_is pushed =
     let named = named-list S is n lists c are within read in
     changes-more S n (items_of lists) (items_of (set lists c.pipe new)) c c own.items are within read
     (omega (arith, named, length-map lists (λ (list : Changes). list.items)))

@@ -21,31 +21,31 @@ AddsBuffered-whole p q r block piece (Ok done) added whole = record {
 AddsBuffered-whole p q r block piece (Err fault) added whole = AddsWhole-then p q r block piece (Err fault) added whole
 
 -- a text of two parts: the first but for what stands in the block, and then the second after the block
-pub AddsBuffered-parts : (p q r : Part) (text first second block left : List ℕ) (result : Result (Unit {0}) WriteFault)
-    → text ≡ first ++ second
+pub AddsBuffered-parts : {p q : Part} (r : Part) {text first : List ℕ} (second : List ℕ) {block : List ℕ} (left : List ℕ)
+    (result : Result (Unit {0}) WriteFault) → text ≡ first ++ second
     → Buffers first p q block → AddsBuffered (block ++ second) q r left result → AddsBuffered text p r left result
-AddsBuffered-parts p q r text first second block left (Ok done) text_is begun ended = record {
+AddsBuffered-parts {p} {q} r {text} {first} second {block} left (Ok done) text_is begun ended = record {
   front = begun.front ++ ended.front;
   split =
       text_is ∙ ap (λ (bytes : List ℕ). bytes ++ second) begun.split ∙ append_assoc begun.front block second
       ∙ ap (λ (bytes : List ℕ). begun.front ++ bytes) ended.split ∙ sym (append_assoc begun.front ended.front left);
   added = Adds-append p q r begun.front ended.front begun.added ended.added;
 }
-AddsBuffered-parts p q r text first second block left (Err fault) text_is begun ended =
+AddsBuffered-parts {p} {q} r {text} {first} second {block} left (Err fault) text_is begun ended =
     let regrouped : text ≡ begun.front ++ (block ++ second) =
     text_is ∙ ap (λ (bytes : List ℕ). bytes ++ second) begun.split ∙ append_assoc begun.front block second in
     subst (λ (bytes : List ℕ). AddsWhole bytes p r (Err fault)) (sym regrouped)
     (AddsWhole-then p q r begun.front (block ++ second) (Err fault) begun.added ended)
 
 -- a text of three parts: the first but for what stands in the block, and then a stop within the second after the block
-pub AddsBuffered-stopped : (p q r : Part) (text first second third block : List ℕ) (fault other : WriteFault)
+pub AddsBuffered-stopped : {p q : Part} (r : Part) {text first : List ℕ} (second third : List ℕ) {block : List ℕ} (fault other : WriteFault)
     → text ≡ first ++ (second ++ third)
     → Buffers first p q block → AddsWhole (block ++ second) q r (Err fault) → AddsWhole text p r (Err other)
-AddsBuffered-stopped p q r text first second third block fault other text_is begun stopped =
+AddsBuffered-stopped {p} {q} r {text} {first} second third {block} fault other text_is begun stopped =
     let longer : AddsFront ((block ++ second) ++ third) q r = AddsFront-append q r (block ++ second) third stopped.0 in
     let regrouped : AddsFront (block ++ (second ++ third)) q r =
     subst (λ (bytes : List ℕ). AddsFront bytes q r) (append_assoc block second third) longer in
-    AddsBuffered-parts p q r text first (second ++ third) block [] (Err fault) text_is begun (regrouped, stopped.1)
+    AddsBuffered-parts r (second ++ third) [] (Err fault) text_is begun (regrouped, stopped.1)
 
 -- one more text of a list after the texts before it
 pub flat_map-more : {X : Type 0} (f : X → List ℕ) (xs : List X) (i : ℕ) (x : X) → i < length xs → x ≡ get_or xs i x

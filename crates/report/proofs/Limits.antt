@@ -34,13 +34,13 @@ len_within S n setup =
     go (Some p) facts = facts.0
 
 -- packets that left, each of the setup and no two with one number, make a trace
-pub IsTrace-left : (S : SetupView) (leaving : List Leaving) (link_type : ℕ) (packets : List Packet)
+pub IsTrace-left : (S : SetupView) (leaving : List Leaving) {link_type : ℕ} {packets : List Packet}
     → link_type ≡ S.link_type → packets ≡ map (packet_left S) leaving → IsSetup S
     → All (λ left. IsSome (packet_of S left.packet)) leaving → AllPairs (λ a b. a.packet ≢ b.packet) leaving
     → All (λ left. length left.bytes ≤ PACKET_BYTES_MAX) leaving
     → All (λ left. output_time S.base_ns S.tick_ns left.tick < RECORD_NS_END) leaving
     → IsTrace (record { link_type = link_type; packets = packets })
-IsTrace-left S leaving link_type packets link_same packets_same setup of_setup different lengths times =
+IsTrace-left S leaving {link_type} {packets} link_same packets_same setup of_setup different lengths times =
     let few : length leaving ≤ PACKETS_MAX =
     length-le-different (λ (left : Leaving). left.packet) leaving PACKETS_MAX different
     (λ i d within. number_below S _ setup (of_setup i d within)) in

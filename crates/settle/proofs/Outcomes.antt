@@ -30,27 +30,40 @@ drops-beside fate [] = refl
 drops-beside fate (p ∷ ps) = ap (cons_option (drop_of p.number (fate p))) (drops-beside fate ps)
 
 -- what was gathered, where ps and qs are what the code reads as the packets
-pub IsOutcome-gathered : (S : SetupView) (visits : List Visit) (bytes : List (List ℕ)) (fates : List Fate) (ps qs : List PacketPlan)
-    (left : List Leaving) (o : OutcomeView)
-    → IsSetup S → length bytes ≡ length S.packets → fates ≡ map (fate_after visits) S.packets → ps ≡ S.packets → qs ≡ S.packets
-    → left ≡ filter_map (λ p. leaving_of p.0.0.number p.1 p.0.1) (zip (zip ps fates) bytes) → IsPermutation left o.leaving
-    → IsSortedByKey tick_and_packet pair_cmp o.leaving → o.dropped ≡ filter_map (λ p. drop_of p.0.number p.1) (zip qs fates)
-    → o.pipe_counts ≡ map (counts_of visits) (range_with_len 0 (length S.pipes)) → IsOutcome S visits bytes o
-IsOutcome-gathered S visits bytes fates ps qs left o setup as_many fates_are ps_are qs_are left_are moved sorted dropped counted =
+pub record IsGathered (S : SetupView) (visits : List Visit) (bytes : List (List ℕ)) (o : OutcomeView) : Type 0 where
+  pub fates : List Fate
+  pub ps : List PacketPlan
+  pub qs : List PacketPlan
+  pub left : List Leaving
+  pub setup : IsSetup S
+  pub as_many : length bytes ≡ length S.packets
+  pub fates_are : fates ≡ map (fate_after visits) S.packets
+  pub ps_are : ps ≡ S.packets
+  pub qs_are : qs ≡ S.packets
+  pub left_are : left ≡ filter_map (λ p. leaving_of p.0.0.number p.1 p.0.1) (zip (zip ps fates) bytes)
+  pub moved : IsPermutation left o.leaving
+  pub sorted : IsSortedByKey tick_and_packet pair_cmp o.leaving
+  pub dropped : o.dropped ≡ filter_map (λ p. drop_of p.0.number p.1) (zip qs fates)
+  pub counted : o.pipe_counts ≡ map (counts_of visits) (range_with_len 0 (length S.pipes))
+
+pub IsOutcome-gathered : {S : SetupView} {visits : List Visit} {bytes : List (List ℕ)} {o : OutcomeView} → IsGathered S visits bytes o
+    → IsOutcome S visits bytes o
+IsOutcome-gathered {S} {visits} {bytes} {o} g =
     let found =
-    left_are
-    ∙ ap (λ ps. filter_map (λ p. leaving_of p.0.0.number p.1 p.0.1) (zip (zip ps fates) bytes)) ps_are
-    ∙ ap (λ fates. filter_map (λ p. leaving_of p.0.0.number p.1 p.0.1) (zip (zip S.packets fates) bytes)) fates_are
+    g.left_are
+    ∙ ap (λ ps. filter_map (λ p. leaving_of p.0.0.number p.1 p.0.1) (zip (zip ps g.fates) bytes)) g.ps_are
+    ∙ ap (λ fates. filter_map (λ p. leaving_of p.0.0.number p.1 p.0.1) (zip (zip S.packets fates) bytes)) g.fates_are
     ∙ leavings-beside (fate_after visits) S.packets bytes in
-    let permuted = subst (λ xs. IsPermutation xs o.leaving) found moved in
+    let permuted = subst (λ xs. IsPermutation xs o.leaving) found g.moved in
+    let rise = leavings-rise (fate_after visits) S.packets bytes g.setup.numbers_rise in
     record {
-      each_has_bytes = as_many;
+      each_has_bytes = g.as_many;
       leaving = permuted;
-      in_order = sorted-in_order o.leaving sorted (packets-differ _ o.leaving (leavings-rise (fate_after visits) S.packets bytes setup.numbers_rise) permuted);
+      in_order = sorted-in_order o.leaving g.sorted (packets-differ _ o.leaving rise permuted);
       dropped =
-          dropped
-          ∙ ap (λ qs. filter_map (λ p. drop_of p.0.number p.1) (zip qs fates)) qs_are
-          ∙ ap (λ fates. filter_map (λ p. drop_of p.0.number p.1) (zip S.packets fates)) fates_are
+          g.dropped
+          ∙ ap (λ qs. filter_map (λ p. drop_of p.0.number p.1) (zip qs g.fates)) g.qs_are
+          ∙ ap (λ fates. filter_map (λ p. drop_of p.0.number p.1) (zip S.packets fates)) g.fates_are
           ∙ drops-beside (fate_after visits) S.packets;
-      pipe_counts = counted;
+      pipe_counts = g.counted;
     }

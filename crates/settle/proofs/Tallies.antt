@@ -57,6 +57,20 @@ abbrev pub CountsBelow : SetupView → ℕ → List PipeCounts → Type 0
 CountsBelow S index all =
     all ≡ map (counts_by (ways_of S (fate_of S) (take index S.packets))) (range_with_len 0 (length S.pipes))
 
+-- the packet at an index is counted: what was read of it, and what was written for each list of ways
+pub record CountsOneMore (S : SetupView) (index : ℕ) (more : List PipeCounts) : Type 0 where
+  pub all : List PipeCounts
+  pub route : List ℕ
+  pub fate : Fate
+  pub fates : List Fate
+  pub counted : CountsBelow S index all
+  pub within : index < length fates
+  pub fates_are : fates ≡ map (fate_of S) S.packets
+  pub fate_is : fate ≡ get_or fates index fate
+  pub route_is : (p : PacketPlan) → slice_get S.packets index ≡ Some p → route ≡ route_of S p.number
+  pub writes : (ways : List (ℕ × Step)) (pipes : ℕ) → all ≡ map (counts_by ways) (range_with_len 0 pipes)
+      → more ≡ map (counts_by (ways ++ way_of route fate)) (range_with_len 0 pipes)
+
 module _ (S : SetupView) (is : IsSetup S) where
   -- one more packet can be counted
   pub tally-below : (index : ℕ) (all : List PipeCounts) (more : ℕ) → CountsBelow S index all → index ≤ length S.packets
@@ -89,15 +103,9 @@ module _ (S : SetupView) (is : IsSetup S) where
   below-long index all counted = ap length counted ∙ length-map-range_with_len (counts_by (ways_of S (fate_of S) (take index S.packets))) 0 (length S.pipes)
 
   -- with it the counts are those of one packet more
-  pub below-more : (index : ℕ) (all more : List PipeCounts) (route : List ℕ) (fate : Fate) (fates : List Fate) → CountsBelow S index all
-      → index < length fates
-      → fates ≡ map (fate_of S) S.packets → fate ≡ get_or fates index fate
-      → ((p : PacketPlan) → slice_get S.packets index ≡ Some p → route ≡ route_of S p.number)
-      → ((ways : List (ℕ × Step)) (pipes : ℕ) → all ≡ map (counts_by ways) (range_with_len 0 pipes) → more ≡ map (counts_by
-      (ways ++ way_of route fate)) (range_with_len 0 pipes))
-      → CountsBelow S (index + 1) more
-  below-more index all more route fate fates counted within fates_are fate_is route_is writes =
-      writes (ways_of S (fate_of S) (take index S.packets)) (length S.pipes) counted
+  pub below-more : {index : ℕ} {more : List PipeCounts} → CountsOneMore S index more → CountsBelow S (index + 1) more
+  below-more {index} {more} one =
+      one.writes (ways_of S (fate_of S) (take index S.packets)) (length S.pipes) one.counted
       ∙ ap (λ ways. map (counts_by ways) (range_with_len 0 (length S.pipes))) (sym whole)
     where
       none : PacketPlan
@@ -107,20 +115,22 @@ module _ (S : SetupView) (is : IsSetup S) where
       p = get_or S.packets index none
 
       inside : index < length S.packets
-      inside = omega (arith, ap length fates_are, length-map S.packets (fate_of S))
+      inside = omega (arith, one.within, ap length one.fates_are, length-map S.packets (fate_of S))
 
-      its_route : route ≡ route_of S p.number
-      its_route = route_is p (slice_get-get_or S.packets index none inside)
+      its_route : one.route ≡ route_of S p.number
+      its_route = one.route_is p (slice_get-get_or S.packets index none inside)
 
-      its_fate : fate ≡ fate_of S p
-      its_fate = fate_is ∙ ap (λ xs. get_or xs index fate) fates_are ∙ get_or-map (fate_of S) S.packets index none fate inside
+      its_fate : one.fate ≡ fate_of S p
+      its_fate =
+          one.fate_is ∙ ap (λ xs. get_or xs index one.fate) one.fates_are
+          ∙ get_or-map (fate_of S) S.packets index none one.fate inside
 
-      whole : ways_of S (fate_of S) (take (index + 1) S.packets) ≡ ways_of S (fate_of S) (take index S.packets) ++ way_of route fate
+      whole : ways_of S (fate_of S) (take (index + 1) S.packets) ≡ ways_of S (fate_of S) (take index S.packets) ++ way_of one.route one.fate
       whole =
           ap (ways_of S (fate_of S)) (take_more S.packets index none inside)
           ∙ flat_map-append (λ q. way_of (route_of S q.number) (fate_of S q)) (take index S.packets) (p ∷ [])
           ∙ ap (λ ways. ways_of S (fate_of S) (take index S.packets) ++ ways)
-          (append-nil (way_of (route_of S p.number) (fate_of S p)) ∙ ap (λ r. way_of r (fate_of S p)) (sym its_route) ∙ ap (way_of route) (sym its_fate))
+          (append-nil (way_of (route_of S p.number) (fate_of S p)) ∙ ap (λ r. way_of r (fate_of S p)) (sym its_route) ∙ ap (way_of one.route) (sym its_fate))
 
   -- the counts of all packets are those of the journal
   pub below-all : (index : ℕ) (all : List PipeCounts) → CountsBelow S index all → length S.packets ≤ index

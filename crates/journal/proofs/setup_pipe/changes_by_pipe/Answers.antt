@@ -18,8 +18,7 @@ index_mut-requires c =
 pub loop-change-preserved : goal.loop-change-preserved
 loop-change-preserved c =
     let same = c.deref-change-items.ensures.value ∙ ap (λ (s : SetupView). s.changes) (c.behind-setup.view_is ∙ c.parts.ensures.same) in
-    put-more c.args.setup.now c.parts.ensures.kept c.loop-change.change-index c.loop-change.lists.items c.change-item.result
-    c.index_mut.result.now c.push.new.self c.loop-change.invariant (omega (arith, c.loop-change-test.true, ap length same))
+    put-more c.parts.ensures.kept c.loop-change.lists.items c.push.new.self c.loop-change.invariant (omega (arith, c.loop-change-test.true, ap length same))
     (c.change-item.is ∙ ap (λ (xs : List PipeChange). slice_index_or xs c.loop-change.change-index c.change-item.result) same)
     c.index_mut.ensures.value c.in_ok-push.ensures.items
 

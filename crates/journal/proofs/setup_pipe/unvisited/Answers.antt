@@ -15,7 +15,16 @@ returns c =
     let same = c.parts.view_is ∙ c.parts-parts.ensures.same in
     let read = subst (λ (ps : List PipeParams). c.index.result.now ≡ slice_index_or ps c.args.number c.index.result.now)
     (ap (λ (s : SetupView). s.pipes) same) c.index.ensures in
-    idle-is S c.args.number c.with_changes.result c.new.result c.index.result.now c.args.changes.items
-    c.parts.inside.tick_ns c.parts.inside.seed c.with_changes.ensures.idle c.with_changes.ensures.stands c.new.ensures
-    (slice_get_read S.pipes (length S.pipes) c.args.number c.index.result.now refl c.requires.within read)
-    c.requires.own (ap (λ (s : SetupView). s.tick_ns) same) (ap (λ (s : SetupView). s.seed) same)
+    idle-is (record {
+      first = c.index.result.now;
+      changes = c.args.changes.items;
+      tick_ns = c.parts.inside.tick_ns;
+      seed = c.parts.inside.seed;
+      idle = c.with_changes.ensures.idle;
+      stands = c.with_changes.ensures.stands;
+      words_are = c.new.ensures;
+      first_is = slice_get_read S.pipes (length S.pipes) c.args.number c.index.result.now refl c.requires.within read;
+      changes_are = c.requires.own;
+      tick_is = ap (λ (s : SetupView). s.tick_ns) same;
+      seed_is = ap (λ (s : SetupView). s.seed) same;
+    })

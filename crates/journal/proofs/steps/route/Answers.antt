@@ -14,8 +14,7 @@ index-requires c =
 read : (c : goal.After-deref) → HasRoute c.args.setup.now c.args.plan c.deref.result.now
 read c =
     route-read (λ (r : Vec ℕ Global). r.items) c.behind-setup.inside.routes.items c.args.setup.now c.parts.ensures.kept c.args.plan
-    c.requires (ap (λ (s : SetupView). s.routes) (c.behind-setup.view_is ∙ c.parts.ensures.same)) c.index.result.now c.index.ensures
-    c.deref.result.now c.deref.ensures.value
+    c.requires (ap (λ (s : SetupView). s.routes) (c.behind-setup.view_is ∙ c.parts.ensures.same)) c.index.ensures c.deref.ensures.value
 
 pub returns-clause-route : goal.returns-clause-route
 returns-clause-route c = (read c).is

@@ -18,7 +18,7 @@ packets-preserved g c =
     ∙ sym (append_assoc block before (record_text packet)) in
     record {
       active = search rules;
-      buffered = AddsBuffered-parts _ _ _ _ _ _ _ c.write_record.new.block (Ok tt) text_is c.packets.invariant.buffered c.in_ok-write_record.ensures.own;
+      buffered = AddsBuffered-parts _ _ c.write_record.new.block (Ok tt) text_is c.packets.invariant.buffered c.in_ok-write_record.ensures.own;
       others = search rules;
     }
 
@@ -36,5 +36,5 @@ returns-in_err-write_record-clause-own g c =
     ap (λ (bytes : List ℕ). block ++ bytes) (flat_map-at record_text packets i packet c.packets-test.true c.packet-item.is)
     ∙ sym (append_assoc block before (record_text packet ++ behind)) in
     rw stopped.1
-    (AddsBuffered-stopped _ _ _ _ _ (record_text packet) behind _ c.in_err-write_record.field-0.0 stopped.0 text_is
+    (AddsBuffered-stopped _ (record_text packet) behind c.in_err-write_record.field-0.0 stopped.0 text_is
     c.packets.invariant.buffered c.in_err-write_record.ensures.own)

@@ -14,7 +14,7 @@ new-requires c =
     let road = YieldsList-from_vec c.args.leaving.items c.into_iter-left-iterator.ensures.into_iter_gives.0 count in
     let ended = YieldsList-end road c.loop-left.yielded c.loop-left.left-iterator c.loop-left.yielded_by c.next.result
     c.next.new.self c.in-None.is c.next.ensures.steps in
-    IsTrace-left c.args.setup.now c.args.leaving.items _ _
+    IsTrace-left c.args.setup.now c.args.leaving.items
     (ap (λ (S : SetupView). S.link_type) (c.parts.view_is ∙ c.parts-parts.ensures.same))
     (c.loop-left.invariant ∙ ap (map (packet_left c.args.setup.now)) (sym (map-id c.loop-left.yielded) ∙ ended.0))
     c.parts-parts.ensures.kept c.requires.of_setup c.requires.different c.requires.lengths c.requires.times

@@ -17,10 +17,19 @@ count_way-requires-clause-named c =
 
 pub loop-index-preserved : goal.loop-index-preserved
 loop-index-preserved c =
-    below-more c.args.setup.now c.parts.ensures.kept c.loop-index.index c.loop-index.all.items c.count_way.new.all.items
-    c.route_at.result.now _ c.args.fates.now
-    c.loop-index.invariant c.loop-index-test.true c.requires.fates
-    (get_or_default c.args.fates.now c.loop-index.index _ _ c.loop-index-test.true) c.route_at.ensures.route c.count_way.ensures
+    below-more c.args.setup.now c.parts.ensures.kept
+    (record {
+      all = c.loop-index.all.items;
+      route = c.route_at.result.now;
+      fate = _;
+      fates = c.args.fates.now;
+      counted = c.loop-index.invariant;
+      within = c.loop-index-test.true;
+      fates_are = c.requires.fates;
+      fate_is = get_or_default c.args.fates.now c.loop-index.index _ _ c.loop-index-test.true;
+      route_is = c.route_at.ensures.route;
+      writes = c.count_way.ensures;
+    })
 
 pub returns : goal.returns
 returns c =

@@ -5,6 +5,5 @@ use Rattle.walk_out.proofs.parts.parts_around.Goals as goal
 
 pub returns : goal.returns
 returns c =
-    parts_around-is c.args.topology.now.links c.links-links.result.now
-    (has c.args.outer.now) c.loop-number.number _ _ _ c.links-links.ensures.lent
-    (omega arith) c.loop-number.invariant.kept c.loop-number.invariant.middle
+    parts_around-is (has c.args.outer.now) c.args.border.items c.links-links.ensures.lent (omega arith) c.loop-number.invariant.kept
+    c.loop-number.invariant.middle

@@ -14,8 +14,7 @@ put-requires c =
 
 pub invariant_of-self-2 : goal.invariant_of-self-2
 invariant_of-self-2 c =
-    IsWheel-inserted c.self.inside.slots.items c.self.inside.marks c.set_mark.new.words c.self.inside.base c.args.due c.put.new.self
-    c.self.invariant
+    IsWheel-inserted c.set_mark.new.words c.args.due c.self.invariant
     (subst (λ (v : WheelView). IsAhead v.base c.args.due.tick) (sym c.self.view_is) c.requires.ahead)
     (search rules)
     (c.in_ok-put.ensures.ok ∙ ap (entered (c.args.due.packet, c.args.due.hop))

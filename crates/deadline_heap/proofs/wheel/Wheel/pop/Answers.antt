@@ -22,8 +22,7 @@ overflow_add-tick c = omega (
 
 pub invariant_of-self-2 : goal.invariant_of-self-2
 invariant_of-self-2 c =
-    IsWheel-popped c.self.inside.slots.items c.self.inside.marks c.unmark.new.words c.self.inside.base c.in_ok-ahead.ahead
-    (c.in_ok-packet.packet, c.in_ok-packet.hop) c.pop.new.self c.self.invariant c.in_ok-ahead.ensures
+    IsWheel-popped c.unmark.new.words c.self.invariant c.in_ok-ahead.ensures
     (sym (c.index_mut.ensures.value ∙ slot_at _ _ _ c.self.invariant.count) ∙ c.in_ok-packet.ensures)
     (c.unmark.ensures.here
     ∙ ap (λ (b : Bool). cond b 0 (bit_of c.self.inside.marks ((c.self.inside.base + c.in_ok-ahead.ahead) % SLOTS)))

@@ -40,14 +40,19 @@ late c = record {
   moved = c.in_ok-entry.ensures.permutation;
   bound = c.in_ok-entry.ensures.below_top c.self.invariant.heap;
   ahead =
-      late-ahead c.self.inside.firsts.items c.self.inside.next c.get.result c.copied-first.result c.copied-later.result
-      c.in_ok-entry.field-0 c.self.invariant.rising
-      c.copied-first.ensures
-      (c.get.ensures.lookup.0 ∙ ap (λ xs. nat_lt c.self.inside.next (length xs)) c.deref.ensures.value)
-      (rw (← c.deref.ensures.value) c.get.ensures.lookup.1)
-      (top-same c.self.inside.laters.data.items c.pop.new.self.data.items c.peek.result c.copied-later.result c.in_ok-entry.field-0 c.copied-later.ensures
-      c.peek.ensures.lookup c.peek.ensures.item.2 c.in_ok-entry.ensures.permutation c.in_ok-entry.ensures.top)
-      c.in_default.ensures;
+      late-ahead c.self.invariant.rising
+      (record {
+        read = c.get.result;
+        copied = c.copied-first.result;
+        later = c.copied-later.result;
+        copies = c.copied-first.ensures;
+        within = c.get.ensures.lookup.0 ∙ ap (λ xs. nat_lt c.self.inside.next (length xs)) c.deref.ensures.value;
+        reads = rw (← c.deref.ensures.value) c.get.ensures.lookup.1;
+        looked =
+            top-same c.self.inside.laters.data.items c.pop.new.self.data.items c.peek.result c.copied-later.result c.in_ok-entry.field-0
+            c.copied-later.ensures c.peek.ensures.lookup c.peek.ensures.item.2 c.in_ok-entry.ensures.permutation c.in_ok-entry.ensures.top;
+        none = c.in_default.ensures;
+      });
 }
 
 pub invariant_of-self-2 : goal.invariant_of-self-2
