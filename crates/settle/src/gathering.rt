@@ -36,7 +36,8 @@ pub fn gather(
     })
 }
 
-fn leaving(packet: u32, fate: Fate, bytes: Bytes) -> Option<Leaving>
+/// The leaving of a packet of this fate, if it left.
+fn leaving_at(packet: u32, fate: Fate, bytes: Bytes) -> Option<Leaving>
     ensures { result ≡ leaving_of packet bytes fate }
 {
     match fate {
@@ -71,12 +72,16 @@ fn all_leaving(
 ) -> Result<Vec<Leaving>, AllocError>
     ensures { IfOk result (λ v. v.items ≡ filter_map (λ p. leaving_of p.0.0.number p.1 p.0.1) (zip (zip packets.now fates.now) bytes.items)) }
 {
-    packets
-        .iter()
-        .zip(fates)
-        .zip(bytes)
-        .filter_map(|((packet, fate), bytes)| leaving(packet.number, *fate, bytes))
-        .collect(alloc)
+    // Room for all of them at once: a vector that grows so far moves on its way.
+    let mut leaving = Vec::with_capacity(alloc, packets.len())?;
+    leaving.extend(
+        packets.iter().zip(fates).zip(bytes).filter_map(|((packet, fate), bytes)| leaving_at(
+            packet.number,
+            *fate,
+            bytes,
+        )),
+    )?;
+    Ok(leaving)
 }
 
 fn all_dropped(
