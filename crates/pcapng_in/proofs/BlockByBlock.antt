@@ -1,13 +1,13 @@
 -- A file is read in one way only: as far as blocks without a fault go.
-use Rattle.std.proofs.Common.{◌≡◌, ◌≢◌, ℕ, zero, suc, ◌+◌, ◌<◌, ◌≤◌, ◌==◌, List, [], ◌∷◌, length, drop, length-drop, Option, Some, None, refl, sym, ap, subst, ◌∙◌, ◌⊎◌, inl, inr, arith}
+use Rattle.std.proofs.Common.{◌≡◌, ℕ, zero, suc, ◌+◌, ◌==◌, List, [], drop, Option, Some, None, refl, sym, ap, subst, ◌∙◌, inl, inr}
 use Rattle.std.proofs.lemmas.Bool.{cases_Bool}
 use Rattle.pcap_io.specs.declared.form.ByteOrder.{ByteOrder}
 use Rattle.pcapng_in.specs.declared.blocks.TheConstants.{SECTION, INTERFACE, SIMPLE, ENHANCED}
 use Rattle.pcapng_in.specs.declared.blocks.Shape.{Shape}
 use Rattle.pcapng_in.specs.declared.fault.NgFault.{NgFault}
-use Rattle.pcapng_in.specs.Blocks.{kind_of, block_length, order_of_block, shape_fault, IsShape}
+use Rattle.pcapng_in.specs.Blocks.{kind_of, order_of_block, shape_fault, IsShape}
 use Rattle.pcapng_in.specs.State.{NgState, first_state, content_fault, with_content}
-use Rattle.pcapng_in.specs.Reading.{length_here, or_then, block_fault, after_block, behind_block, ReadsBlocks, ReadsTo}
+use Rattle.pcapng_in.specs.Reading.{length_here, block_fault, after_block, behind_block, ReadsBlocks, ReadsTo}
 
 -- one more block at the end
 pub ReadsBlocks-push : (n : ℕ) (state : NgState) (text : List ℕ) (end : NgState) (rest : List ℕ)

@@ -1,5 +1,5 @@
 -- A file has one format, and by it one reading or one first fault, never both, and always one of them.
-use Rattle.std.proofs.Common.{◌≡◌, ℕ, ◌+◌, ◌*◌, ◌/◌, ◌^◌, ◌<◌, ◌≤◌, List, [], ◌∷◌, length, take, Some, Result, Ok, Err, refl, sym, ap, subst, ◌∙◌, ◌⊎◌, inl, inr, All, arith}
+use Rattle.std.proofs.Common.{◌≡◌, ℕ, ◌/◌, ◌^◌, ◌<◌, ◌≤◌, List, [], ◌∷◌, take, Some, Result, Ok, Err, sym, ap, subst, ◌∙◌, ◌⊎◌, inl, inr, All, arith}
 use Rattle.std.specs.Option.{IfSome}
 use Rattle.std.specs.Result.{IfOk, IfErr}
 use Rattle.std.specs.Str.{bytes_eq}
@@ -9,13 +9,13 @@ use Rattle.mn_base.specs.declared.limits.TheConstants.{RECORD_SECONDS_MAX}
 use Rattle.mn_base.specs.declared.refusal.Refusal.{Refusal}
 use Rattle.mn_base.specs.declared.refusal.Refusal.TheVariants as refusal
 use Rattle.mn_base.specs.Ranges.{IsLinkType}
-use Rattle.mn_base.specs.Refused.{IfFault, Gives, Refuses}
+use Rattle.mn_base.specs.Refused.{IfFault, Gives, Refuses, MapsFault}
 use Rattle.pcap_io.specs.declared.form.ByteOrder.{ByteOrder}
 use Rattle.pcap_io.specs.declared.form.ByteOrder.TheVariants.{Little, Big}
 use Rattle.pcap_io.specs.declared.form.Resolution.{Resolution}
 use Rattle.pcap_io.specs.declared.form.Resolution.TheVariants.{Microseconds, Nanoseconds}
 use Rattle.pcap_io.specs.declared.packet.Packet.{Packet}
-use Rattle.pcap_io.specs.Capture.{Capture, IsTrace, IsPacket}
+use Rattle.pcap_io.specs.Capture.{Capture, IsTrace}
 use Rattle.pcap_io.specs.Form.{magic}
 use Rattle.pcap_io.specs.Reading.{Pcap}
 use Rattle.pcap_io.specs.Writing.{pcap_text}
@@ -23,13 +23,14 @@ use Rattle.pcap_io.proofs.Answered.{is_answered}
 use Rattle.pcap_io.proofs.OneReading.{one_reading, no_fault, one_fault}
 use Rattle.pcap_io.proofs.ReadsBack.{reads_back}
 use Rattle.pcapng_in.specs.declared.fault.CaptureFault.{CaptureFault}
+use Rattle.pcapng_in.specs.declared.fault.NgFault.{NgFault}
 use Rattle.pcapng_in.specs.declared.fault.CaptureFault.TheVariants as fault
 use Rattle.pcapng_in.specs.declared.fault.CaptureFault.TheVariants.{Ng}
 use Rattle.pcapng_in.specs.declared.packets.TheConstants.{CAPTURE_NS_END}
-use Rattle.pcapng_in.specs.Reading.{Pcapng}
+use Rattle.pcapng_in.specs.Reading.{Pcapng, NgFirst}
 use Rattle.pcapng_in.specs.CaptureFile.{BeginsNg, SaysTrace, CaptureFirst}
 use Rattle.pcapng_in.specs.Laws.{OneReading, NeverBoth, OneFault, EachTextIsAnswered, SaysTheSameAsPcap}
-use Rattle.pcapng_in.proofs.Kept.{Keeps, what_is_read_keeps}
+use Rattle.pcapng_in.proofs.Kept.{what_is_read_keeps}
 use Rattle.pcapng_in.proofs.OneAnswer.{one_ng_reading, never_ng_both, one_ng_fault, each_ng_file}
 
 pub one_capture_reading : OneReading
@@ -126,3 +127,12 @@ pub gives_capture_fault : (text : List ℕ) (result : Result Capture (Refusal Ca
 gives_capture_fault text (Ok given) other found told has = never_capture_both text given other found has
 gives_capture_fault text (Err refusal.NoMemory) other found told has = tt
 gives_capture_fault text (Err (refusal.Fault given)) other found told has = one_capture_fault text given other told has
+
+-- the first fault of a pcapng file, as a fault of a capture; out of memory stays
+pub ng_fault_first : (text : List ℕ) (old : Refusal NgFault) (new : Refusal CaptureFault) → BeginsNg text → IfFault old (NgFirst text)
+    → MapsFault (λ told given. given ≡ Ng told) old new → IfFault new (CaptureFirst text)
+ng_fault_first text refusal.NoMemory refusal.NoMemory begins first maps = tt
+ng_fault_first text refusal.NoMemory (refusal.Fault given) begins first maps = absurd maps
+ng_fault_first text (refusal.Fault told) refusal.NoMemory begins first maps = absurd maps
+ng_fault_first text (refusal.Fault told) (refusal.Fault given) begins first maps =
+    subst (CaptureFirst text) (sym maps) (begins, first)

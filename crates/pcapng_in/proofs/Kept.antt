@@ -1,5 +1,5 @@
 -- What stays true from block to block: units of interfaces, the first link type, and packets within the limits.
-use Rattle.std.proofs.Common.{◌≡◌, ◌≢◌, ℕ, zero, suc, ◌+◌, ◌-◌, ◌*◌, ◌^◌, ◌<◌, ◌≤◌, ◌==◌, nat_le, ◌&&◌, ◌||◌, not, Bool, true, false, if◌then◌else◌, List, [], ◌∷◌, ◌++◌, length, take, drop, length-take, Option, Some, None, refl, sym, ap, subst, ◌∙◌, ◌⊎◌, inl, inr, All, arith, lit≤, slice_index}
+use Rattle.std.proofs.Common.{◌≡◌, ◌≢◌, ℕ, zero, suc, ◌+◌, ◌-◌, ◌^◌, ◌<◌, ◌≤◌, ◌==◌, nat_le, ◌&&◌, true, List, [], ◌∷◌, length, take, drop, length-take, Option, Some, None, refl, subst, inl, inr, All, arith, lit≤, slice_index}
 use native.Mathlib.Nat.{pow-suc}
 use Rattle.std.specs.Option.{option_map, unwrap_or, IfSome}
 use Rattle.std.proofs.lemmas.Bool.{cases_Bool}
@@ -7,7 +7,7 @@ use Rattle.std.proofs.lemmas.Nat.{pow_pos}
 use Rattle.std.proofs.lemmas.Bool.Decides.{nat_tests}
 use Rattle.std.proofs.lemmas.List.{length_push}
 use Rattle.std.proofs.lemmas.List.Elements.{All-push}
-use Rattle.mn_base.specs.declared.limits.TheConstants.{PACKETS_MAX, PACKET_BYTES_MAX, LINK_TYPE_ETHERNET, LINK_TYPE_RAW, LINK_TYPE_IPV4}
+use Rattle.mn_base.specs.declared.limits.TheConstants.{PACKETS_MAX, PACKET_BYTES_MAX}
 use Rattle.mn_base.specs.Ranges.{IsLinkType}
 use Rattle.pcap_io.specs.declared.form.ByteOrder.{ByteOrder}
 use Rattle.pcap_io.specs.declared.packet.Packet.{Packet}
@@ -20,8 +20,8 @@ use Rattle.pcapng_in.specs.declared.interface.Interface.{Interface}
 use Rattle.pcapng_in.specs.declared.fault.NgFault.{NgFault}
 use Rattle.pcapng_in.specs.declared.fault.NgFault.TheVariants.{LinkType}
 use Rattle.pcapng_in.specs.Options.{InterfaceOption, options, rate, rate_of_code, rate_of_value}
-use Rattle.pcapng_in.specs.Interfaces.{knows_link_type, is_other_type, interface_link_type, interface_rate, rate_fault, rate_told, interface_fault, interface_of}
-use Rattle.pcapng_in.specs.Packets.{HasRate, is_too_long, enhanced_fault, enhanced_header, simple_fault, simple_header, captured_of_simple, packet_at}
+use Rattle.pcapng_in.specs.Interfaces.{knows_link_type, interface_link_type, interface_rate, rate_told, interface_fault, interface_of}
+use Rattle.pcapng_in.specs.Packets.{HasRate, enhanced_fault, enhanced_header, simple_fault, simple_header, packet_at}
 use Rattle.pcapng_in.specs.Blocks.{kind_of, order_of_block, shape_fault}
 use Rattle.pcapng_in.specs.State.{NgState, first_state, with_section, with_interface, with_packet, content_fault, with_content}
 use Rattle.pcapng_in.specs.Reading.{length_here, or_then, block_fault, after_block, behind_block, ReadsBlocks, ReadsTo}

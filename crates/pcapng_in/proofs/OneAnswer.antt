@@ -1,5 +1,5 @@
 -- A pcapng file has one reading or one first fault, never both, and always one of them.
-use Rattle.std.proofs.Common.{◌≡◌, ◌≢◌, ℕ, zero, suc, ◌+◌, ◌<◌, ◌≤◌, ◌==◌, nat_lt, Bool, true, false, if◌then◌else◌, List, [], ◌∷◌, length, length-drop, Option, Some, None, refl, sym, ap, subst, ◌∙◌, ◌⊎◌, inl, inr, arith}
+use Rattle.std.proofs.Common.{◌≡◌, ◌≢◌, ℕ, zero, suc, ◌≤◌, ◌==◌, nat_lt, Bool, true, false, if◌then◌else◌, List, [], ◌∷◌, length, length-drop, Option, Some, None, refl, sym, ap, ◌∙◌, ◌⊎◌, inl, inr, arith}
 use Rattle.std.proofs.lemmas.Bool.Decides.{nat_tests}
 use Rattle.pcap_io.specs.declared.form.ByteOrder.{ByteOrder}
 use Rattle.pcap_io.specs.declared.packet.Packet.{Packet}
@@ -9,8 +9,8 @@ use Rattle.pcapng_in.specs.declared.fault.NgFault.{NgFault}
 use Rattle.pcapng_in.specs.declared.fault.NgFault.TheVariants.{Cut, Magic, NoInterface}
 use Rattle.pcapng_in.specs.Blocks.{kind_of, block_length, least_length, magic_order, length_fault, section_shape_fault, shape_fault, order_told, order_of_block}
 use Rattle.pcapng_in.specs.State.{NgState, first_state, content_fault}
-use Rattle.pcapng_in.specs.Reading.{length_here, or_then, block_fault, after_block, behind_block, ReadsBlocks, ReadsTo, Pcapng, HasBlockFault, HasNoInterface, NgFirst}
-use Rattle.pcapng_in.proofs.BlockByBlock.{ReadsBlocks-push, IsStuck, stuck_at_nothing, stuck_at_fault, SameReads, ReadsTo-meet}
+use Rattle.pcapng_in.specs.Reading.{length_here, or_then, block_fault, after_block, behind_block, ReadsBlocks, ReadsTo, Pcapng, HasBlockFault, NgFirst}
+use Rattle.pcapng_in.proofs.BlockByBlock.{stuck_at_nothing, stuck_at_fault, ReadsTo-meet}
 
 abbrev capture : ℕ → List Packet → Capture
 capture link_type packets = record { link_type = link_type; packets = packets }

@@ -1,11 +1,11 @@
 -- The options of a body, one by one.
-use Rattle.std.proofs.Common.{◌≡◌, ℕ, zero, suc, ◌+◌, ◌<◌, ◌≤◌, Bool, true, false, ◌==◌, if◌then◌else◌, List, [], ◌∷◌, length, drop, length-drop, Option, Some, None, refl, sym, ap, ◌∙◌, inl, inr, arith}
+use Rattle.std.proofs.Common.{◌≡◌, ℕ, zero, suc, ◌≤◌, true, false, ◌==◌, if◌then◌else◌, List, [], ◌∷◌, length, drop, length-drop, Option, Some, None, refl, ap, ◌∙◌, inl, inr, arith}
 use Rattle.std.specs.Option.{option_map}
 use Rattle.std.proofs.lemmas.Bool.{cases_Bool}
 use Rattle.std.proofs.lemmas.Bool.Decides.{nat_tests}
 use Rattle.pcap_io.specs.declared.form.ByteOrder.{ByteOrder}
 use Rattle.pcapng_in.specs.declared.rate.TheConstants.{RESOLUTION}
-use Rattle.pcapng_in.specs.Options.{InterfaceOption, option_length, padded, has_option, runs_past, option_at, after_option, options_up_to, options, rate, rate_of_value, found_after}
+use Rattle.pcapng_in.specs.Options.{InterfaceOption, option_length, padded, has_option, runs_past, option_at, after_option, options_up_to, options, rate, found_after}
 
 -- an option takes four bytes and more
 after_option-shorter : (n : ℕ) (order : ByteOrder) (body : List ℕ) → has_option order body ≡ true → length body ≤ suc n

@@ -1,5 +1,5 @@
 -- An interface block: type and length (8 bytes), link type (2), two reserved bytes, snaplen (4), options, and the length again (4).
-use Rattle.std.specs.Prelude.{◌≡◌, ℕ, ◌-◌, ◌==◌, ◌||◌, not, Bool, true, false, if◌then◌else◌, List, take, drop, Option, Some, None, Result, Ok, Err}
+use Rattle.std.specs.Prelude.{◌≡◌, ℕ, ◌-◌, ◌==◌, ◌||◌, not, Bool, false, if◌then◌else◌, List, take, drop, Option, Some, None, Result, Ok, Err}
 use Rattle.std.specs.Option.{option_map}
 use Rattle.mn_base.specs.declared.limits.TheConstants.{LINK_TYPE_ETHERNET, LINK_TYPE_RAW, LINK_TYPE_IPV4}
 use Rattle.pcap_io.specs.declared.form.ByteOrder.{ByteOrder}

@@ -1,6 +1,5 @@
 -- What a pcapng file says (`text` is its bytes): whole blocks, one after the other, and nothing else.
 use Rattle.std.specs.Prelude.{◌≡◌, ◌≢◌, ℕ, zero, suc, ◌+◌, ◌⊎◌, List, [], drop, Option, Some, None}
-use Rattle.pcap_io.specs.declared.form.ByteOrder.{ByteOrder}
 use Rattle.pcap_io.specs.Capture.{Capture}
 use Rattle.pcapng_in.specs.declared.fault.NgFault.{NgFault}
 use Rattle.pcapng_in.specs.declared.fault.NgFault.TheVariants.{NoInterface}

@@ -1,5 +1,5 @@
 -- What a file has said up to a place, and what one more block says.
-use Rattle.std.specs.Prelude.{◌≡◌, ℕ, zero, suc, ◌+◌, ◌-◌, ◌==◌, if◌then◌else◌, List, [], ◌∷◌, ◌++◌, length, drop, Option, Some, None}
+use Rattle.std.specs.Prelude.{ℕ, ◌==◌, if◌then◌else◌, List, [], ◌∷◌, ◌++◌, length, Option, Some, None}
 use Rattle.std.specs.Option.{unwrap_or}
 use Rattle.pcap_io.specs.declared.form.ByteOrder.{ByteOrder}
 use Rattle.pcap_io.specs.declared.form.ByteOrder.TheVariants.{Little}
@@ -9,7 +9,6 @@ use Rattle.pcapng_in.specs.declared.blocks.TheConstants.{SECTION, INTERFACE, SIM
 use Rattle.pcapng_in.specs.declared.interface.Interface.{Interface}
 use Rattle.pcapng_in.specs.declared.fault.NgFault.{NgFault}
 use Rattle.pcapng_in.specs.declared.fault.NgFault.TheVariants.{Version}
-use Rattle.pcapng_in.specs.Blocks.{kind_of, block_length, order_of_block, shape_fault}
 use Rattle.pcapng_in.specs.Interfaces.{interface_fault, interface_of}
 use Rattle.pcapng_in.specs.Packets.{enhanced_fault, enhanced_header, simple_fault, simple_header, packet_at}
 

@@ -30,14 +30,12 @@ fn read_by_format(alloc: Global, text: &[u8]) -> Result<Trace, Refusal<CaptureFa
     if begins_ng(text) {
         match read_pcapng(alloc, text) {
             Ok(trace) => Ok(trace),
-            Err(Refusal::NoMemory) => Err(Refusal::NoMemory),
-            Err(Refusal::Fault(fault)) => Err(Refusal::Fault(CaptureFault::Ng(fault))),
+            Err(refusal) => Err(refusal.map_fault(CaptureFault::Ng)),
         }
     } else {
         match read_pcap(alloc, text) {
             Ok(trace) => Ok(trace),
-            Err(Refusal::NoMemory) => Err(Refusal::NoMemory),
-            Err(Refusal::Fault(fault)) => Err(Refusal::Fault(CaptureFault::Pcap(fault))),
+            Err(refusal) => Err(refusal.map_fault(CaptureFault::Pcap)),
         }
     }
 }

@@ -1,8 +1,8 @@
-use Rattle.std.proofs.Common.{◌≡◌, ◌+◌, ◌*◌, true, false, List, [], ℕ, Option, Some, None, drop, ap, sym, ◌∙◌, refl, arith}
+use Rattle.std.proofs.Common.{◌≡◌, true, false, [], ℕ, Option, Some, None, ap, sym, ◌∙◌, refl, arith}
 use Rattle.std.specs.Option.{option_map, unwrap_or}
 use Rattle.std.proofs.lemmas.Bool.Decides.{nat_tests}
 use Rattle.pcapng_in.specs.declared.rate.TheConstants.{RATE_DEFAULT}
-use Rattle.pcapng_in.specs.Options.{InterfaceOption, options, has_option, runs_past, option_at, after_option, found_after, rate}
+use Rattle.pcapng_in.specs.Options.{has_option, runs_past, option_at, after_option, found_after}
 use Rattle.pcapng_in.proofs.OptionLists.{rate_from, rate_from-step, options-none}
 use Rattle.pcapng_in.proofs.rate.rate.Goals as goal
 use Rattle.pcapng_in.proofs.rate.rate.Goals.{then-options-test+else-half-ne0, else-options-test}

@@ -1,4 +1,4 @@
-use Rattle.std.proofs.Common.{◌≡◌, length-drop, ap, arith}
+use Rattle.std.proofs.Common.{arith}
 use Rattle.pcapng_in.specs.Answers.{seen}
 use Rattle.pcapng_in.proofs.BlockByBlock.{IsStep, ReadsTo-step, step-place}
 use Rattle.pcapng_in.proofs.Kept.{what_is_read_keeps}
