@@ -1,5 +1,5 @@
 -- Each kind of step keeps the rule of a lane, and tells what its play says.
-use Rattle.std.proofs.Common.{◌≡◌, ◌≢◌, ◌⊎◌, inl, inr, ⊎_elim, ℕ, zero, suc, ◌+◌, ◌-◌, ◌*◌, ◌<◌, eqb, true, false, true≢false, List, [], ◌∷◌, ◌++◌, length, set, get_or, Option, Some, None, refl, sym, ap, ◌∙◌, subst, arith, length-set, lit<}
+use Rattle.std.proofs.Common.{◌≡◌, ◌≢◌, ◌⊎◌, inl, inr, ⊎_elim, ℕ, zero, suc, ◌+◌, ◌-◌, ◌*◌, ◌<◌, eqb, Bool, true, false, true≢false, List, [], ◌∷◌, ◌++◌, length, set, get_or, Option, Some, None, refl, sym, ap, ◌∙◌, subst, arith, length-set, lit<}
 use mathlib.Core.Option as maybe
 use lib.ListN.{get_elem?}
 use prog.Atomic.{either}
@@ -25,6 +25,14 @@ gate_written words word width =
 
 off : false ≡ true → ⊥
 off e = true≢false (sym e)
+
+-- what the seat of an end knows between two calls: its role, how many items it posted or took, and that it holds nothing
+pub record AtRest {N T : Type 0} (me : Me (Option T) (Note N)) (sends receives : Bool) (k : ℕ) : Type 0 where
+  pub sends_is : me.0.sends ≡ sends
+  pub receives_is : me.0.receives ≡ receives
+  pub next_is : me.0.next ≡ k
+  pub idle : me.0.holds ≡ false
+  pub empty : me.1 ≡ []
 
 module _ {N T : Type 0} (is_item : N → ℕ → T → Type 0) (name : N) where
   abbrev V : Type 0
@@ -174,10 +182,10 @@ module _ {N T : Type 0} (is_item : N → ℕ → T → Type 0) (name : N) where
       (w : V) × (a : Act (Option T)) × Valid s.homes me.1 a × LaneOk is_item name (stepped s GATE word id me.1 w a) × told
       (w, carried_after me.1 a)
 
-  pub claims : (slots id k : ℕ) (me : M) → me.0.sends ≡ true → me.0.receives ≡ false → me.0.holds ≡ false → me.0.next ≡ k → me.1 ≡ []
+  pub claims : (slots id : ℕ) {k : ℕ} {me : M} → AtRest me true false k
       → Allows (LaneOk is_item name) slots id me GATE (λ y. either (eqb y (4 * k)) (4 * k + 1) y)
       (Claims (step slots GATE (4 * k) (4 * k + 1) maybe.none) me)
-  claims slots id k me sends deaf idle next none_held s r wide at small =
+  claims slots id {k} {me} seat s r wide at small =
       exchanged y (4 * k) (4 * k + 1) (λ word. Comes s id me word (Claims (step slots GATE (4 * k) (4 * k + 1) maybe.none) me y)) hit miss
     where
       y : ℕ
@@ -187,13 +195,13 @@ module _ {N T : Type 0} (is_item : N → ℕ → T → Type 0) (name : N) where
       is = r.word
 
       mine : (id ≡ r.sender) × (me.0.next ≡ sent r.n r.phase) × (me.0.holds ≡ writes r.phase)
-      mine = (r.seats id me.0 at).sends sends
+      mine = (r.seats id me.0 at).sends seat.sends_is
 
       number : k ≡ sent r.n r.phase
-      number = sym next ∙ mine.1
+      number = sym seat.next_is ∙ mine.1
 
       quiet : false ≡ writes r.phase
-      quiet = sym idle ∙ mine.2
+      quiet = sym seat.idle ∙ mine.2
 
       hit : y ≡ 4 * k → Comes s id me (4 * k + 1) (Claims (step slots GATE (4 * k) (4 * k + 1) maybe.none) me y)
       hit same =
@@ -202,10 +210,10 @@ module _ {N T : Type 0} (is_item : N → ℕ → T → Type 0) (name : N) where
             holding me.0,
             takes 0 None,
             ap (λ (hs : List (maybe.Option (Option T))). get_elem? hs 0) home,
-            sender_moves s r id k writing (4 * k + 1) (set s.homes 0 maybe.none) me.0 (holding me.0) at sends refl
-                (ap (λ (hs : List (maybe.Option (Option T))). set hs 0 maybe.none) home) refl deaf next refl
+            sender_moves s r id k writing (4 * k + 1) (set s.homes 0 maybe.none) me.0 (holding me.0) at seat.sends_is refl
+                (ap (λ (hs : List (maybe.Option (Option T))). set hs 0 maybe.none) home) refl seat.receives_is seat.next_is refl
                 (sym found.1 ∙ ap (λ (p : Phase). taken r.n p) (sym found.0)) (ap reads (sym found.0)),
-            ((λ _. ap (λ (held : List (ℕ × Option T)). (holding me.0, (0, None) ∷ held)) none_held), (λ differ. absurd (differ same))),
+            ((λ _. ap (λ (held : List (ℕ × Option T)). (holding me.0, (0, None) ∷ held)) seat.empty), (λ differ. absurd (differ same))),
           )
 
       miss : y ≢ 4 * k → Comes s id me y (Claims (step slots GATE (4 * k) (4 * k + 1) maybe.none) me y)
@@ -214,13 +222,13 @@ module _ {N T : Type 0} (is_item : N → ℕ → T → Type 0) (name : N) where
             missed me.0 y,
             keeps,
             tt,
-            sender_moves s r id r.n r.phase y s.homes me.0 (missed me.0 y) at sends is r.lies refl deaf mine.1 mine.2 refl refl,
+            sender_moves s r id r.n r.phase y s.homes me.0 (missed me.0 y) at seat.sends_is is r.lies refl seat.receives_is mine.1 mine.2 refl refl,
             (
               (λ same. absurd (differ same)),
               λ _. (
                 refl,
-                subst (λ (m : ℕ). 0 < m) (sym next) busy.0,
-                subst (λ (m : ℕ). (y ≡ 4 * (m - 1) + 2) ⊎ (y ≡ 4 * (m - 1) + 3)) (sym next)
+                subst (λ (m : ℕ). 0 < m) (sym seat.next_is) busy.0,
+                subst (λ (m : ℕ). (y ≡ 4 * (m - 1) + 2) ⊎ (y ≡ 4 * (m - 1) + 3)) (sym seat.next_is)
                     (⊎_elim (λ at2. inl (is ∙ at2)) (λ at3. inr (is ∙ at3)) busy.1),
               ),
             ),
@@ -257,10 +265,10 @@ module _ {N T : Type 0} (is_item : N → ℕ → T → Type 0) (name : N) where
       homes : maybe.some (Some x) ∷ [] ≡ put_back s.homes me.1
       homes = sym (ap (put_back s.homes) carried ∙ ap (λ (hs : List (maybe.Option (Option T))). set hs 0 (maybe.some (Some x))) out)
 
-  pub takes_item : (slots id k : ℕ) (me : M) → me.0.receives ≡ true → me.0.sends ≡ false → me.0.holds ≡ false → me.0.next ≡ k → me.1 ≡ []
+  pub takes_item : (slots id : ℕ) {k : ℕ} {me : M} → AtRest me false true k
       → Allows (LaneOk is_item name) slots id me GATE (λ y. either (eqb y (4 * k + 2)) (4 * k + 3) y)
       (TakesItem is_item (step slots GATE (4 * k + 2) (4 * k + 3) maybe.none) me)
-  takes_item slots id k me receives mute idle next none_held s r wide at small =
+  takes_item slots id {k} {me} seat s r wide at small =
       exchanged y (4 * k + 2) (4 * k + 3)
       (λ word. Comes s id me word (TakesItem is_item (step slots GATE (4 * k + 2) (4 * k + 3) maybe.none) me y)) hit miss
     where
@@ -271,13 +279,13 @@ module _ {N T : Type 0} (is_item : N → ℕ → T → Type 0) (name : N) where
       is = r.word
 
       mine : (id ≡ r.receiver) × (me.0.next ≡ taken r.n r.phase) × (me.0.holds ≡ reads r.phase)
-      mine = (r.seats id me.0 at).receives receives
+      mine = (r.seats id me.0 at).receives seat.receives_is
 
       number : k ≡ taken r.n r.phase
-      number = sym next ∙ mine.1
+      number = sym seat.next_is ∙ mine.1
 
       quiet : false ≡ reads r.phase
-      quiet = sym idle ∙ mine.2
+      quiet = sym seat.idle ∙ mine.2
 
       hit : y ≡ 4 * k + 2 → Comes s id me (4 * k + 3) (TakesItem is_item (step slots GATE (4 * k + 2) (4 * k + 3) maybe.none) me y)
       hit same =
@@ -287,15 +295,15 @@ module _ {N T : Type 0} (is_item : N → ℕ → T → Type 0) (name : N) where
             seized me.0,
             takes 0 (Some lies.0),
             ap (λ (hs : List (maybe.Option (Option T))). get_elem? hs 0) lies.1,
-            receiver_moves s r id k reading (4 * k + 3) (set s.homes 0 maybe.none) me.0 (seized me.0) at receives refl
-                (ap (λ (hs : List (maybe.Option (Option T))). set hs 0 maybe.none) lies.1) refl mute (ap (λ (m : ℕ). m + 1) next) refl
+            receiver_moves s r id k reading (4 * k + 3) (set s.homes 0 maybe.none) me.0 (seized me.0) at seat.receives_is refl
+                (ap (λ (hs : List (maybe.Option (Option T))). set hs 0 maybe.none) lies.1) refl seat.sends_is (ap (λ (m : ℕ). m + 1) seat.next_is) refl
                 (ap (λ (m : ℕ). m + 1) (sym found.1) ∙ ap (λ (p : Phase). sent r.n p) (sym found.0)) (ap writes (sym found.0)),
             (
               (λ _. (
                 lies.0,
-                ap (λ (held : List (ℕ × Option T)). (seized me.0, (0, Some lies.0) ∷ held)) none_held,
+                ap (λ (held : List (ℕ × Option T)). (seized me.0, (0, Some lies.0) ∷ held)) seat.empty,
                 subst (λ (m : N). is_item m me.0.next lies.0) (sym (r.seats id me.0 at).named)
-                    (subst (λ (m : ℕ). is_item name m lies.0) (found.1 ∙ sym next) lies.2),
+                    (subst (λ (m : ℕ). is_item name m lies.0) (found.1 ∙ sym seat.next_is) lies.2),
               )),
               (λ differ. absurd (differ same)),
             ),
@@ -308,8 +316,8 @@ module _ {N T : Type 0} (is_item : N → ℕ → T → Type 0) (name : N) where
             missed me.0 y,
             keeps,
             tt,
-            receiver_moves s r id r.n r.phase y s.homes me.0 (missed me.0 y) at receives is r.lies refl mute mine.1 mine.2 refl refl,
-            ((λ same. absurd (differ same)), λ _. (refl, subst (λ (m : ℕ). y < 4 * m + 2) (sym next) early)),
+            receiver_moves s r id r.n r.phase y s.homes me.0 (missed me.0 y) at seat.receives_is is r.lies refl seat.sends_is mine.1 mine.2 refl refl,
+            ((λ same. absurd (differ same)), λ _. (refl, subst (λ (m : ℕ). y < 4 * m + 2) (sym seat.next_is) early)),
           )
 
   pub clears : (slots id k : ℕ) (me : M) → me.0.receives ≡ true → me.0.sends ≡ false → me.0.holds ≡ true → me.0.next ≡ k + 1
@@ -406,15 +414,15 @@ module _ {N T : Type 0} (is_item : N → ℕ → T → Type 0) (name : N) where
   -- ---- as the code goes on from its first step
 
   -- after a claim and the exchange the sender holds the box with the item in it, and may post it
-  pub posts_next : (slots id k : ℕ) (m m1 m2 : M) (x : T) → m.0.sends ≡ true → m.0.receives ≡ false → m.0.next ≡ k
+  pub posts_next : (slots id : ℕ) {k : ℕ} {m m1 m2 : M} {x : T} → AtRest m true false k
       → m1 ≡ (holding m.0, (0, None) ∷ []) → m2 ≡ (m1.0, (0, Some x) ∷ rest m1.1) → is_item m.0.name k x
       → Allows (LaneOk is_item name) slots id m2 GATE (λ _. 4 * k + 2)
       (λ _. Posts (step slots GATE (4 * k + 2) 0 maybe.none) m2 (4 * k + 2))
-  posts_next slots id k m m1 m2 x sends deaf next claimed filled item =
+  posts_next slots id {k} {m} {m1} {m2} {x} seat claimed filled item =
       subst (λ (u : M). Allows (LaneOk is_item name) slots id u GATE (λ _. 4 * k + 2)
       (λ _. Posts (step slots GATE (4 * k + 2) 0 maybe.none) u (4 * k + 2)))
       (sym (filled ∙ ap (λ (u : M). (u.0, (0, Some x) ∷ rest u.1)) claimed))
-      (posts slots id k (holding m.0, (0, Some x) ∷ []) x sends deaf refl next refl item)
+      (posts slots id k (holding m.0, (0, Some x) ∷ []) x seat.sends_is seat.receives_is refl seat.next_is refl item)
 
   -- after a take the receiver holds the box
   pub holds_box : (m m1 : M) (x : T) → m1 ≡ (seized m.0, (0, Some x) ∷ []) → (old : Option T) × (m1.1 ≡ (0, old) ∷ rest m1.1)
@@ -423,12 +431,12 @@ module _ {N T : Type 0} (is_item : N → ℕ → T → Type 0) (name : N) where
       (Some x, carried ∙ ap (λ (held : List (ℕ × Option T)). (0, Some x) ∷ rest held) (sym carried))
 
   -- and after the exchange it holds it empty, and may clear the word
-  pub clears_next : (slots id k : ℕ) (m m1 m2 : M) (x : T) → m.0.receives ≡ true → m.0.sends ≡ false → m.0.next ≡ k
+  pub clears_next : (slots id : ℕ) {k : ℕ} {m m1 m2 : M} {x : T} → AtRest m false true k
       → m1 ≡ (seized m.0, (0, Some x) ∷ []) → m2 ≡ (m1.0, (0, None) ∷ rest m1.1)
       → Allows (LaneOk is_item name) slots id m2 GATE (λ _. 4 * k + 4)
       (λ _. Clears (step slots GATE (4 * k + 4) 0 maybe.none) m2 (4 * k + 4))
-  clears_next slots id k m m1 m2 x receives mute next seized_it emptied =
+  clears_next slots id {k} {m} {m1} {m2} {x} seat seized_it emptied =
       subst (λ (u : M). Allows (LaneOk is_item name) slots id u GATE (λ _. 4 * k + 4)
       (λ _. Clears (step slots GATE (4 * k + 4) 0 maybe.none) u (4 * k + 4)))
       (sym (emptied ∙ ap (λ (u : M). (u.0, (0, None) ∷ rest u.1)) seized_it))
-      (clears slots id k (seized m.0, (0, None) ∷ []) receives mute refl (ap (λ (n : ℕ). n + 1) next) refl)
+      (clears slots id k (seized m.0, (0, None) ∷ []) seat.receives_is seat.sends_is refl (ap (λ (n : ℕ). n + 1) seat.next_is) refl)

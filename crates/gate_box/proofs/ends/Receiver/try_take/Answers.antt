@@ -7,8 +7,8 @@ compare_exchange-found-requires g c =
     let i = c.self.invariant in (
       search rules,
       search rules,
-      takes_item g.L.Lane.is_item c.deref.result.now.shared.key _ c.self.inside.seat.id c.self.inside.next
-          c.self.inside.seat.me i.4 i.3 i.6 i.5 i.7,
+      takes_item g.L.Lane.is_item c.deref.result.now.shared.key _ c.self.inside.seat.id
+          (record { sends_is = i.3; receives_is = i.4; next_is = i.5; idle = i.6; empty = i.7 }),
     )
 
 pub exchange-requires : goal.exchange-requires
@@ -25,7 +25,6 @@ store-requires g c =
     let got = c.compare_exchange-found.ensures.2.0 c.if-found-round.false in (
       search rules,
       search rules,
-      clears_next g.L.Lane.is_item c.deref.result.now.shared.key _ _ c.self.inside.next c.self.inside.seat.me _ _ got.0 i.4 i.3 i.5
-          got.1
-          c.exchange.ensures.3,
+      clears_next g.L.Lane.is_item c.deref.result.now.shared.key _ _
+          (record { sends_is = i.3; receives_is = i.4; next_is = i.5; idle = i.6; empty = i.7 }) got.1 c.exchange.ensures.3,
     )

@@ -8,8 +8,8 @@ compare_exchange-found-requires g c =
     let i = c.self.invariant in (
       search rules,
       search rules,
-      claims g.L.Lane.is_item c.deref.result.now.shared.key _ c.self.inside.seat.id c.self.inside.next
-          c.self.inside.seat.me i.3 i.4 i.6 i.5 i.7,
+      claims g.L.Lane.is_item c.deref.result.now.shared.key _ c.self.inside.seat.id
+          (record { sends_is = i.3; receives_is = i.4; next_is = i.5; idle = i.6; empty = i.7 }),
     )
 
 pub store-requires : goal.store-requires
@@ -17,7 +17,8 @@ store-requires g c =
     let i = c.self.invariant in (
       search rules,
       search rules,
-      posts_next g.L.Lane.is_item c.deref.result.now.shared.key _ _ c.self.inside.next c.self.inside.seat.me _ _ c.args.item i.3 i.4 i.5
+      posts_next g.L.Lane.is_item c.deref.result.now.shared.key _ _
+          (record { sends_is = i.3; receives_is = i.4; next_is = i.5; idle = i.6; empty = i.7 })
           (c.compare_exchange-found.ensures.2.0 c.if-found-free.false)
           c.exchange.ensures.3
           (subst (λ (v : EndView _). g.L.Lane.is_item v.name v.next c.args.item) (sym c.self.view_is) c.requires.item),
