@@ -6,7 +6,6 @@ use Rattle.mn_base.specs.Times.{output_time}
 use Rattle.pcap_io.specs.declared.packet.Packet.{Packet}
 use Rattle.parcel.specs.declared.counts.PipeCounts.{PipeCounts}
 use Rattle.journal.specs.SetupView.{SetupView, len_of}
-use Rattle.journal.specs.Laws.{bare}
 use Rattle.journal.proofs.Bare.{len-bare}
 use Rattle.settle.specs.declared.outcome.DropLine.{DropLine}
 use Rattle.settle.specs.declared.outcome.Leaving.{Leaving}
