@@ -1,5 +1,6 @@
-use crate::{Distilled, Mode, TooManyPipes, distill};
+use crate::{Distilled, DistilledPipe, Mode, TooManyPipes, distill};
 use mn_base::{NoMemory, Refusal};
+use routes::{Arc, Graph, Routes};
 use std::alloc::Global;
 use std::test::Fail;
 use topo::{EdgeSpec, Node, TopoFault, Topology};
@@ -55,6 +56,25 @@ fn shape_of(alloc: Global, distilled: &Distilled) -> Result<Vec<(u32, u32, u32, 
         shape.push((pipe.from, pipe.to, pipe.links, pipe.params.latency_us))?;
     }
     Ok(shape)
+}
+
+/// The pipes of the least walk from the first node of a row of nine to the last; none where there are more than a hundred pipes.
+fn route_along(alloc: Global, pipes: &[DistilledPipe]) -> Result<Option<Vec<u32>>, NoMemory> {
+    if pipes.len() > 100 {
+        return Ok(None);
+    }
+    let mut arcs = Vec::new(alloc);
+    for pipe in pipes {
+        if pipe.from < 9 && pipe.to < 9 {
+            arcs.push(Arc {
+                from: pipe.from,
+                to: pipe.to,
+                weight: pipe.params.latency_us,
+            })?;
+        }
+    }
+    let graph = Graph::new(9, arcs);
+    Routes::toward(alloc, &graph, 8)?.walk(alloc, 0)
 }
 
 #[test]
@@ -154,6 +174,10 @@ fn a_row_of_nine_walked_in_and_out(rt: HostRuntime) -> Result<(), Fail> {
         (7, 5, 2, 2_000),
     ];
     assert_eq!(rt; shape_of(rt.alloc(), &out)?.as_slice(), expected.as_slice());
+    let Some(route) = route_along(rt.alloc(), out.pipes())? else {
+        return Err("a route")?;
+    };
+    assert_eq!(rt; route.as_slice(), [0, 8, 2, 4, 10, 6].as_slice());
     let walked = distill(rt.alloc(), &topology, Mode::Walk(1), 100_000)?;
     let expected = [
         (0, 1, 1, 1_000),
