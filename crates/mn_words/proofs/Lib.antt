@@ -1,4 +1,5 @@
 pub mod ColonParts
 pub mod Finding
+pub mod Names
 pub mod PipeLists
 pub mod Taking

@@ -47,9 +47,13 @@ unfoldable pub fit : Form → List Item → Bool
 fit form [] = true
 fit form (item ∷ items) = fits_before form item items && fit form items
 
+-- whether an option of each of these names stands
+abbrev pub has_each : List (List ℕ) → List Item → Bool
+has_each names items = list_all (λ name. is_some (value_of name items)) names
+
 -- no required option is missing
 unfoldable pub has_needed : Form → List Item → Bool
-has_needed form items = list_all (λ name. is_some (value_of name items)) form.needs
+has_needed form items = has_each form.needs items
 
 abbrev pub is_some_word : List (List ℕ) → Bool
 is_some_word [] = false

@@ -1,5 +1,6 @@
 pub mod Form
 pub mod Items
+pub mod Options
 pub mod Order
 pub mod Steps
 pub mod TheCommands

@@ -20,11 +20,6 @@ number_within least most text = do
 unfoldable pub colon_parts : List ℕ → List (List ℕ)
 colon_parts text = slice_split (λ b. b == 58) text
 
--- the value of an option: what its text says, and a default where the option is left out
-abbrev pub read_or : {A : Type 0} → A → (List ℕ → Option A) → Option (List ℕ) → Option A
-read_or default read None = Some default
-read_or default read (Some text) = read text
-
 -- a tick length, in ns
 abbrev pub tick_of : List ℕ → Option ℕ
 tick_of text = number_within TICK_NS_MIN TICK_NS_MAX text

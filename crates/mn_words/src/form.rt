@@ -1,29 +1,114 @@
-ghost use Rattle.std.specs.Prelude.{◌≡◌, ◌&&◌, not, option_copied, is_some, Some, None};
+ghost use Rattle.std.specs.Prelude.{◌≡◌, ◌&&◌, not, option_copied, is_some, bytes_eq, Some, None};
+ghost use Rattle.std.specs.List.{list_any, list_all};
 ghost use Rattle.mn_words.specs.Items.{items_of, is_cut};
 ghost use Rattle.mn_words.specs.Form.{value_of, takes, fits_before, fit, has_needed, has_pipes, has_form};
-ghost use Rattle.mn_words.specs.TheCommands.{command_of, form_of};
 
 use crate::rest::{Item, Rest};
+use std::marker::Model;
 
-/// A command of the table.
-#[derive(Clone, Copy, Debug, PartialEq, Eq)]
-pub enum Command {
-    Chain,
-    Distill,
+/// The form of a command: the names of the options that are required, those of the options that may stand, too, and whether
+/// there are PIPEs.
+#[derive(Drop)]
+pub struct Form {
+    pub needs: &'static [&'static str],
+    pub may_have: &'static [&'static str],
+    pub takes_pipes: bool,
 }
 
-/// The command of a word.
-#[tactic(auto, unfolding(crate::specs::TheCommands::command_of))]
-pub fn command_of(word: &str) -> Option<Command>
-    ensures { result ≡ command_of word.now }
-{
-    if word == "chain" {
-        Some(Command::Chain)
-    } else if word == "distill" {
-        Some(Command::Distill)
-    } else {
-        None
+impl Model for Form {
+    ghost use Rattle.std.specs.Prelude.{map};
+    ghost use Rattle.mn_words.specs.Form.{Form};
+
+    ghost Value = { Form };
+
+    ghost view = { λ form. record {
+      needs = map (λ name. name.now) form.needs.now;
+      may_have = map (λ name. name.now) form.may_have.now;
+      takes_pipes = form.takes_pipes;
+    } };
+}
+
+impl Form {
+    /// Whether words are of this form.
+    #[tactic(auto, unfolding(crate::specs::Form::has_form))]
+    pub fn has_form(&self, words: Rest) -> bool
+        ensures { result ≡ has_form self.now words.entry }
+    {
+        self.fit(words.again()) && self.has_needed(words.again()) && self.has_pipes(words)
     }
+
+    /// Whether no value is missing at the end, each item is one of the form, and no option stands twice.
+    fn fit(&self, words: Rest) -> bool
+        ensures { result ≡ (not (is_cut words.entry) && fit self.now (items_of words.entry)) }
+    {
+        let mut rest = words;
+        'items: loop {
+            let Ok(next) = rest.next_item() else {
+                return false;
+            };
+            let Some(item) = next else {
+                return true;
+            };
+            if !self.fits(&item, rest.again()) {
+                return false;
+            }
+        }
+    }
+
+    /// Whether the form has such an item, and no option of its name stands in the words after it.
+    fn fits(&self, item: &Item, after: Rest) -> bool
+        ensures { result ≡ fits_before self.now item.now (items_of after.entry) }
+    {
+        match item.name {
+            None => self.takes_pipes,
+            Some(name) => self.takes_option(name) && !has_option(after, name),
+        }
+    }
+
+    /// Whether the form has an option of this name.
+    fn takes_option(&self, name: &str) -> bool
+        ensures { result ≡ takes self.now (Some name.now) }
+    {
+        let is_needed = has_name(name, self.needs);
+        let is_optional = has_name(name, self.may_have);
+        is_needed || is_optional
+    }
+
+    /// Whether no required option is missing.
+    fn has_needed(&self, words: Rest) -> bool
+        ensures { result ≡ has_needed self.now (items_of words.entry) }
+    {
+        has_options(words, self.needs)
+    }
+
+    /// Whether a PIPE stands where the form has PIPEs.
+    #[tactic(auto, unfolding(crate::specs::Form::has_pipes))]
+    fn has_pipes(&self, mut words: Rest) -> bool
+        ensures { result ≡ has_pipes self.now (items_of words.entry) }
+    {
+        !self.takes_pipes || words.next_bare().is_some()
+    }
+}
+
+/// Whether this name is among those.
+fn has_name(name: &str, names: &[&str]) -> bool
+    ensures { result ≡ list_any (λ other. bytes_eq name.now other.now) names.now }
+{
+    names.iter().any(|other| name == *other)
+}
+
+/// Whether an option of each of these names stands.
+fn has_options(words: Rest, names: &[&str]) -> bool
+    ensures { result ≡ list_all (λ name. is_some (value_of name.now (items_of words.entry))) names.now }
+{
+    names.iter().all(|name| has_option(words.again(), name))
+}
+
+/// Whether an option of this name stands.
+fn has_option(words: Rest, name: &str) -> bool
+    ensures { result ≡ is_some (value_of name.now (items_of words.entry)) }
+{
+    value_of(words, name).is_some()
 }
 
 /// The value of the first option of this name.
@@ -42,102 +127,4 @@ pub fn value_of<'w>(words: Rest<'_, 'w>, name: &str) -> Option<&'w str>
             return Some(item.value);
         }
     }
-}
-
-/// Whether an option of this name stands.
-fn has_option(words: Rest, name: &str) -> bool
-    ensures { result ≡ is_some (value_of name.now (items_of words.entry)) }
-{
-    value_of(words, name).is_some()
-}
-
-/// Whether a command has an option of this name.
-#[tactic(auto, unfolding(crate::specs::Form::takes, crate::specs::TheCommands::chain_form, crate::specs::TheCommands::distill_form))]
-fn takes_option(command: Command, name: &str) -> bool
-    ensures { result ≡ takes (form_of command) (Some name.now) }
-{
-    match command {
-        Command::Chain => {
-            name == "--trace"
-                || name == "--out"
-                || name == "--report"
-                || name == "--tick-ns"
-                || name == "--seed"
-                || name == "--loss"
-        }
-        Command::Distill => name == "--topology" || name == "--mode" || name == "--tick-ns",
-    }
-}
-
-/// Whether a command has PIPEs.
-#[tactic(auto, unfolding(crate::specs::Form::takes, crate::specs::TheCommands::chain_form, crate::specs::TheCommands::distill_form))]
-fn takes_pipes(command: Command) -> bool
-    ensures { result ≡ takes (form_of command) None }
-{
-    match command {
-        Command::Chain => true,
-        Command::Distill => false,
-    }
-}
-
-/// Whether a command has such an item, and no option of its name stands in the words after it.
-fn fits(command: Command, item: &Item, after: Rest) -> bool
-    ensures { result ≡ fits_before (form_of command) item.now (items_of after.entry) }
-{
-    match item.name {
-        None => takes_pipes(command),
-        Some(name) => takes_option(command, name) && !has_option(after, name),
-    }
-}
-
-/// Whether no value is missing at the end, each item is one of the command's, and no option stands twice.
-fn fit(command: Command, words: Rest) -> bool
-    ensures { result ≡ (not (is_cut words.entry) && fit (form_of command) (items_of words.entry)) }
-{
-    let mut rest = words;
-    'items: loop {
-        let Ok(next) = rest.next_item() else {
-            return false;
-        };
-        let Some(item) = next else {
-            return true;
-        };
-        if !fits(command, &item, rest.again()) {
-            return false;
-        }
-    }
-}
-
-/// Whether no required option of the command is missing.
-#[tactic(auto, unfolding(crate::specs::Form::has_needed, crate::specs::TheCommands::chain_form, crate::specs::TheCommands::distill_form))]
-fn has_needed(command: Command, words: Rest) -> bool
-    ensures { result ≡ has_needed (form_of command) (items_of words.entry) }
-{
-    match command {
-        Command::Chain => {
-            has_option(words.again(), "--trace")
-                && has_option(words.again(), "--out")
-                && has_option(words, "--report")
-        }
-        Command::Distill => has_option(words, "--topology"),
-    }
-}
-
-/// Whether a PIPE stands where the command has PIPEs.
-#[tactic(auto, unfolding(crate::specs::Form::has_pipes, crate::specs::TheCommands::chain_form, crate::specs::TheCommands::distill_form))]
-fn has_pipes(command: Command, mut words: Rest) -> bool
-    ensures { result ≡ has_pipes (form_of command) (items_of words.entry) }
-{
-    match command {
-        Command::Chain => words.next_bare().is_some(),
-        Command::Distill => true,
-    }
-}
-
-/// Whether words are of the command's form.
-#[tactic(auto, unfolding(crate::specs::Form::has_form))]
-pub fn has_form(command: Command, words: Rest) -> bool
-    ensures { result ≡ has_form (form_of command) words.entry }
-{
-    fit(command, words.again()) && has_needed(command, words.again()) && has_pipes(command, words)
 }

@@ -1,3 +1,5 @@
+use mn_base::Refusal;
+
 /// An option of a command, or its PIPE words.
 #[derive(Clone, Copy, Debug, PartialEq, Eq)]
 pub enum Opt {
@@ -23,4 +25,15 @@ pub enum WordsFault {
     Form,
     /// They are, and the value of this option, the first in the order of `Opt`, is outside its range.
     Value(Opt),
+}
+
+impl From<WordsFault> for Refusal<WordsFault> {
+    ghost use Rattle.std.specs.Prelude.{◌≡◌};
+    ghost use Rattle.mn_base.specs.declared.refusal.Refusal.TheVariants as refusal;
+
+    ghost from_gives = { λ fault e. e ≡ refusal.Fault fault };
+
+    fn from(fault: WordsFault) -> Self {
+        Refusal::Fault(fault)
+    }
 }

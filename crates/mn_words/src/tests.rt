@@ -23,20 +23,26 @@ fn assert_faults(rt: &(impl Abort + AllocGlobal), lines: &str, fault: WordsFault
     }
 }
 
-fn chain_order(rt: &(impl Abort + AllocGlobal), line: &str) -> ChainOrder {
+/// What the words of a line ask for. Where they are refused, the test's output says whether memory was.
+fn order_of(rt: &(impl Abort + AllocGlobal), line: &str) -> Order {
     let words: Result<Vec<&str>, _> = line.split(' ').collect(rt.alloc());
     let words = words.expect(rt, "memory");
     match read_words(rt.alloc(), words.as_slice()) {
-        Ok(Order::Chain(order)) => order,
+        Ok(order) => order,
+        Err(refused) => panic!(rt; "{refused:?} at {line}"),
+    }
+}
+
+fn chain_order(rt: &(impl Abort + AllocGlobal), line: &str) -> ChainOrder {
+    match order_of(rt, line) {
+        Order::Chain(order) => order,
         _ => panic!(rt; "no order of a chain: {line}"),
     }
 }
 
 fn distill_order(rt: &(impl Abort + AllocGlobal), line: &str) -> DistillOrder {
-    let words: Result<Vec<&str>, _> = line.split(' ').collect(rt.alloc());
-    let words = words.expect(rt, "memory");
-    match read_words(rt.alloc(), words.as_slice()) {
-        Ok(Order::Distill(order)) => order,
+    match order_of(rt, line) {
+        Order::Distill(order) => order,
         _ => panic!(rt; "no order to distill: {line}"),
     }
 }

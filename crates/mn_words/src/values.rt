@@ -1,8 +1,7 @@
-ghost use Rattle.std.specs.Prelude.{◌≡◌, ◌≤◌, [], ◌∷◌, IfSome, MatchOption, None, option_copied};
-ghost use Rattle.mn_base.specs.Decimal.{decimal_of};
+ghost use Rattle.std.specs.Prelude.{◌≡◌, ◌≤◌, [], ◌∷◌, IfSome, MatchOption, None};
 ghost use Rattle.mn_base.specs.Ranges.{IsTickLength};
 ghost use Rattle.distill.specs.Modes.{IsFrontierCount, IsMode};
-ghost use Rattle.mn_words.specs.Values.{number_within, colon_parts, pipe_spec_of, read_or, tick_of, loss_of, mode_of, walk_of, walk_numbers, frontier_count};
+ghost use Rattle.mn_words.specs.Values.{number_within, colon_parts, pipe_spec_of, tick_of, loss_of, mode_of, walk_of, walk_numbers, frontier_count};
 ghost use Rattle.mn_words.specs.Order.{IsPipeSpec};
 
 use crate::order::PipeSpec;
@@ -10,7 +9,7 @@ use distill::Mode;
 use journal::LossBy;
 use mn_base::limits::{
     BPS_MAX, BPS_MIN, FRONTIERS_MAX, LINK_LATENCY_US_MAX, LOSS_PPM_MAX, QUEUE_MAX, QUEUE_MIN,
-    TICK_NS_DEFAULT, TICK_NS_MAX, TICK_NS_MIN,
+    TICK_NS_MAX, TICK_NS_MIN,
 };
 use mn_base::read_u64;
 
@@ -29,40 +28,17 @@ fn number_within(text: &str, least: u64, most: u64) -> Option<u64>
     }
 }
 
-/// The seed of the loss words: any number, and 0 without the option.
-pub fn seed_or_usual(text: Option<&str>) -> Option<u64>
-    ensures { result ≡ read_or 0 decimal_of (option_copied text.entry) }
-{
-    match text {
-        None => Some(0),
-        Some(text) => read_u64(text.as_bytes()),
-    }
-}
-
-/// The tick length, in ns, and the usual one without the option.
-pub fn tick_or_usual(text: Option<&str>) -> Option<u64>
-    ensures value { result ≡ read_or TICK_NS_DEFAULT tick_of (option_copied text.entry) }
+/// The tick length that a text names, in ns.
+pub fn tick_of(text: &str) -> Option<u64>
+    ensures value { result ≡ tick_of text.now }
     ensures range { IfSome result IsTickLength }
 {
-    match text {
-        None => Some(TICK_NS_DEFAULT),
-        Some(text) => number_within(text, TICK_NS_MIN, TICK_NS_MAX),
-    }
-}
-
-/// How loss words are numbered, and by the packet without the option.
-pub fn loss_or_usual(text: Option<&str>) -> Option<LossBy>
-    ensures { result ≡ read_or LossBy.Packet loss_of (option_copied text.entry) }
-{
-    match text {
-        None => Some(LossBy::Packet),
-        Some(text) => loss_of(text),
-    }
+    number_within(text, TICK_NS_MIN, TICK_NS_MAX)
 }
 
 /// `packet` or `arrival`.
 #[tactic(auto, unfolding(crate::specs::Values::loss_of))]
-fn loss_of(text: &str) -> Option<LossBy>
+pub fn loss_of(text: &str) -> Option<LossBy>
     ensures { result ≡ loss_of text.now }
 {
     if text == "packet" {
@@ -74,20 +50,9 @@ fn loss_of(text: &str) -> Option<LossBy>
     }
 }
 
-/// How much is kept of a topology, and every link without the option.
-pub fn mode_or_usual(text: Option<&str>) -> Option<Mode>
-    ensures value { result ≡ read_or Mode.Hop mode_of (option_copied text.entry) }
-    ensures range { IfSome result IsMode }
-{
-    match text {
-        None => Some(Mode::Hop),
-        Some(text) => mode_of(text),
-    }
-}
-
 /// `hop`, `end`, `walk:W` or `walk:W:O`.
 #[tactic(auto, unfolding(crate::specs::Values::mode_of))]
-fn mode_of(text: &str) -> Option<Mode>
+pub fn mode_of(text: &str) -> Option<Mode>
     ensures value { result ≡ mode_of text.now }
     ensures range { IfSome result IsMode }
 {

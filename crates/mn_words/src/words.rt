@@ -3,26 +3,28 @@ ghost use Rattle.mn_base.specs.Refused.{IfFault};
 ghost use Rattle.mn_words.specs.Form.{bare_words, has_form};
 ghost use Rattle.mn_words.specs.Items.{items_of};
 ghost use Rattle.mn_words.specs.Order.{IsChainOrder, IsDistillOrder};
-ghost use Rattle.mn_words.specs.TheCommands.{form_of, order_of, chain_of, distill_of, text_of};
+ghost use Rattle.mn_words.specs.TheCommands.{form_of, order_of, chain_of, distill_of};
 ghost use Rattle.mn_words.specs.Words.{ordered, texts, IsInRange};
 
-use crate::form::{Command, command_of, has_form, value_of};
-use crate::opt::{Opt, WordsFault};
-use crate::order::{ChainOrder, DistillOrder, FileName, Order};
+use crate::command::{Command, command_of, form_of};
+use crate::opt::WordsFault;
+use crate::options::{file_in, loss_in, mode_in, seed_in, tick_in};
+use crate::order::{ChainOrder, DistillOrder, Order};
 use crate::pipes::chain_pipes;
 use crate::rest::Rest;
-use crate::values::{loss_or_usual, mode_or_usual, seed_or_usual, tick_or_usual};
-use mn_base::{NoMemory, Refusal};
+use mn_base::Refusal;
 use std::alloc::Global;
 
 /// What a command line asks for.
 ///
-/// `chain --trace F --out F --report F --tick-ns N --seed N --loss L PIPE..` replays a trace through 1 to 16 pipes, each as
-/// `BPS:LATENCY_US:QUEUE:PPM`; `distill --topology F --mode M --tick-ns N` prints the pipes of a distilled topology. Options and
-/// PIPEs may be mixed. An option is `--name value`, whatever the value's word is, or `--name=value`, parted at the first `=`.
-/// Without `--tick-ns` a tick has 100,000 ns, without `--seed` the seed is 0, without `--loss` loss words are numbered by the
-/// `packet` (else by the `arrival`), and without `--mode` it is `hop`, else `end`, `walk:W` or `walk:W:O` with numbers from 1 to
-/// 4,096.
+/// - `chain --trace F --out F --report F --tick-ns N (100000) --seed N (0) --loss L (packet) PIPE..` replays a trace through 1 to
+///   16 pipes.
+/// - `distill --topology F --mode M (hop) --tick-ns N (100000)` prints the pipes of a distilled topology.
+///
+/// What stands in brackets holds where the option is left out; the others are required. Options and PIPEs
+/// may be mixed. An option is `--name value`, whatever the value's word is, or `--name=value`, parted at the
+/// first `=`. A PIPE is `BPS:LATENCY_US:QUEUE:PPM`, M is `hop`, `end`, `walk:W` or `walk:W:O` with numbers from 1 to 4,096, and L
+/// is `packet` or `arrival`.
 ///
 /// # Errors
 ///
@@ -43,7 +45,7 @@ pub fn read_words(alloc: Global, words: &[&str]) -> Result<Order, Refusal<WordsF
     let Some(command) = command_of(first) else {
         return Err(Refusal::Fault(WordsFault::Command));
     };
-    if !has_form(command, rest.again()) {
+    if !form_of(command).has_form(rest.again()) {
         return Err(Refusal::Fault(WordsFault::Form));
     }
     order_of(alloc, command, rest)
@@ -70,19 +72,13 @@ fn chain_of(alloc: Global, words: Rest) -> Result<ChainOrder, Refusal<WordsFault
     ensures ranges { IfOk result IsChainOrder }
     ensures fault { IfErr result (λ e. IfFault e (λ fault. chain_of (items_of words.entry) ≡ Err fault)) }
 {
-    let Some(seed) = seed_or_usual(value_of(words.again(), "--seed")) else {
-        return Err(Refusal::Fault(WordsFault::Value(Opt::Seed)));
-    };
-    let Some(tick_ns) = tick_or_usual(value_of(words.again(), "--tick-ns")) else {
-        return Err(Refusal::Fault(WordsFault::Value(Opt::TickNs)));
-    };
+    let seed = seed_in(words.again())?;
+    let tick_ns = tick_in(words.again())?;
     let pipes = chain_pipes(alloc, words.again())?;
-    let Some(loss) = loss_or_usual(value_of(words.again(), "--loss")) else {
-        return Err(Refusal::Fault(WordsFault::Value(Opt::Loss)));
-    };
-    let trace = file_of(alloc, words.again(), "--trace")?;
-    let out = file_of(alloc, words.again(), "--out")?;
-    let report = file_of(alloc, words, "--report")?;
+    let loss = loss_in(words.again())?;
+    let trace = file_in(alloc, words.again(), "--trace")?;
+    let out = file_in(alloc, words.again(), "--out")?;
+    let report = file_in(alloc, words, "--report")?;
     Ok(ChainOrder {
         trace,
         out,
@@ -100,26 +96,12 @@ fn distill_of(alloc: Global, words: Rest) -> Result<DistillOrder, Refusal<WordsF
     ensures ranges { IfOk result IsDistillOrder }
     ensures fault { IfErr result (λ e. IfFault e (λ fault. distill_of (items_of words.entry) ≡ Err fault)) }
 {
-    let Some(mode) = mode_or_usual(value_of(words.again(), "--mode")) else {
-        return Err(Refusal::Fault(WordsFault::Value(Opt::Mode)));
-    };
-    let Some(tick_ns) = tick_or_usual(value_of(words.again(), "--tick-ns")) else {
-        return Err(Refusal::Fault(WordsFault::Value(Opt::TickNs)));
-    };
-    let topology = file_of(alloc, words, "--topology")?;
+    let mode = mode_in(words.again())?;
+    let tick_ns = tick_in(words.again())?;
+    let topology = file_in(alloc, words, "--topology")?;
     Ok(DistillOrder {
         topology,
         mode,
         tick_ns,
     })
-}
-
-/// The file that an option names, which stands.
-fn file_of(alloc: Global, words: Rest, name: &str) -> Result<FileName, NoMemory>
-    ensures { IfOk result (λ file. file ≡ text_of name.now (items_of words.entry)) }
-{
-    match value_of(words, name) {
-        Some(text) => FileName::copy(alloc, text),
-        None => FileName::copy(alloc, ""),
-    }
 }

@@ -1,0 +1,44 @@
+ghost use Rattle.std.specs.Prelude.{◌≡◌};
+ghost use Rattle.mn_words.specs.TheCommands.{command_of, form_of};
+
+use crate::form::Form;
+
+/// A command of the table.
+#[derive(Clone, Copy, Debug, PartialEq, Eq)]
+pub enum Command {
+    Chain,
+    Distill,
+}
+
+/// The command of a word.
+#[tactic(auto, unfolding(crate::specs::TheCommands::command_of))]
+pub fn command_of(word: &str) -> Option<Command>
+    ensures { result ≡ command_of word.now }
+{
+    if word == "chain" {
+        Some(Command::Chain)
+    } else if word == "distill" {
+        Some(Command::Distill)
+    } else {
+        None
+    }
+}
+
+/// The form of each command: a row of the table.
+#[tactic(auto, unfolding(crate::specs::TheCommands::form_of))]
+pub fn form_of(command: Command) -> Form
+    ensures { result ≡ form_of command }
+{
+    match command {
+        Command::Chain => Form {
+            needs: &["--trace", "--out", "--report"],
+            may_have: &["--tick-ns", "--seed", "--loss"],
+            takes_pipes: true,
+        },
+        Command::Distill => Form {
+            needs: &["--topology"],
+            may_have: &["--mode", "--tick-ns"],
+            takes_pipes: false,
+        },
+    }
+}

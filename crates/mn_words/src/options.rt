@@ -1,0 +1,68 @@
+ghost use Rattle.std.specs.Prelude.{◌≡◌, IfOk};
+ghost use Rattle.mn_base.specs.Ranges.{IsTickLength};
+ghost use Rattle.distill.specs.Modes.{IsMode};
+ghost use Rattle.mn_words.specs.Items.{items_of};
+ghost use Rattle.mn_words.specs.Options.{mode_in, seed_in, tick_in, loss_in, text_in};
+
+use crate::form::value_of;
+use crate::opt::{Opt, WordsFault};
+use crate::order::FileName;
+use crate::rest::Rest;
+use crate::values::{loss_of, mode_of, tick_of};
+use distill::Mode;
+use journal::LossBy;
+use mn_base::limits::TICK_NS_DEFAULT;
+use mn_base::{NoMemory, read_u64};
+use std::alloc::Global;
+
+/// `--mode`: how much is kept of a topology, and every link without it.
+pub fn mode_in(words: Rest) -> Result<Mode, WordsFault>
+    ensures value { result ≡ mode_in (items_of words.entry) }
+    ensures range { IfOk result IsMode }
+{
+    match value_of(words, "--mode") {
+        None => Ok(Mode::Hop),
+        Some(text) => mode_of(text).ok_or(WordsFault::Value(Opt::Mode)),
+    }
+}
+
+/// `--seed`: the seed of the loss words, and 0 without it.
+pub fn seed_in(words: Rest) -> Result<u64, WordsFault>
+    ensures { result ≡ seed_in (items_of words.entry) }
+{
+    match value_of(words, "--seed") {
+        None => Ok(0),
+        Some(text) => read_u64(text.as_bytes()).ok_or(WordsFault::Value(Opt::Seed)),
+    }
+}
+
+/// `--tick-ns`: the tick length, in ns, and the usual one without it.
+pub fn tick_in(words: Rest) -> Result<u64, WordsFault>
+    ensures value { result ≡ tick_in (items_of words.entry) }
+    ensures range { IfOk result IsTickLength }
+{
+    match value_of(words, "--tick-ns") {
+        None => Ok(TICK_NS_DEFAULT),
+        Some(text) => tick_of(text).ok_or(WordsFault::Value(Opt::TickNs)),
+    }
+}
+
+/// `--loss`: how loss words are numbered, and by the packet without it.
+pub fn loss_in(words: Rest) -> Result<LossBy, WordsFault>
+    ensures { result ≡ loss_in (items_of words.entry) }
+{
+    match value_of(words, "--loss") {
+        None => Ok(LossBy::Packet),
+        Some(text) => loss_of(text).ok_or(WordsFault::Value(Opt::Loss)),
+    }
+}
+
+/// The file that an option names, which stands.
+pub fn file_in(alloc: Global, words: Rest, name: &str) -> Result<FileName, NoMemory>
+    ensures { IfOk result (λ file. file ≡ text_in name.now (items_of words.entry)) }
+{
+    match value_of(words, name) {
+        Some(text) => FileName::copy(alloc, text),
+        None => FileName::copy(alloc, ""),
+    }
+}
