@@ -70,10 +70,30 @@ fn notes_are_put_in_order(rt: HostRuntime) -> Result<(), Fail> {
             cause: Cause::Full,
         },
     };
-    let parcel = Parcel::in_order(vec![in rt.alloc(); arrives, dropped]?, Some(60));
+    let earlier = Note::Arrive {
+        packet: 9,
+        hop: 2,
+        tick: 59,
+    };
+    let later = Note::Arrive {
+        packet: 1,
+        hop: 1,
+        tick: 61,
+    };
+    let left = Note::Settle {
+        packet: 0,
+        fate: Fate::Left { tick: 70 },
+    };
+    let parcel = Parcel::in_order(
+        vec![in rt.alloc(); left, arrives, later, earlier, dropped]?,
+        Some(59),
+    );
     may_move_to_a_thread(&parcel);
-    assert_eq!(rt; parcel.least, Some(60));
-    assert_eq!(rt; parcel.notes.as_slice(), [dropped, arrives].as_slice());
+    assert_eq!(rt; parcel.least, Some(59));
+    assert_eq!(rt;
+        parcel.notes.as_slice(),
+        [earlier, dropped, arrives, later, left].as_slice()
+    );
     Ok(())
 }
 
@@ -135,17 +155,17 @@ fn the_lookahead_is_over_all_changes(rt: HostRuntime) -> Result<(), Fail> {
     Ok(())
 }
 
-/// Pipe 2 alone is left for a pipe of the other core.
+/// Two stubs of fast pipes, with a core each; the slow pipe 8 between them is the only one that packets leave for the other core.
 #[test]
-fn other_pipes_do_not_count(rt: HostRuntime) -> Result<(), Fail> {
+fn the_lookahead_is_over_no_other_pipes(rt: HostRuntime) -> Result<(), Fail> {
     let setup = setup!(
         rt,
         2,
-        [10, 10, 200, 10],
-        [0, 0, 0, 1],
-        [[0, 2, 3]],
-        [0 => 0],
-        [3 => 1]
+        [10, 10, 10, 10, 10, 10, 10, 10, 200, 200],
+        [0, 0, 0, 0, 1, 1, 1, 1, 0, 1],
+        [[0, 8, 4], [2, 8, 6]],
+        [0 => 0, 1 => 1],
+        [4 => 1]
     );
     assert_eq!(rt; lookahead(&setup), 200);
     Ok(())
@@ -160,18 +180,20 @@ fn one_core_has_the_greatest_lookahead(rt: HostRuntime) -> Result<(), Fail> {
 
 /// A setup without packets has no window: each core posts one parcel to each other, and it has no note.
 #[test]
-fn a_parcel_goes_through_its_box(rt: HostRuntime) -> Result<(), Fail> {
+fn each_pair_of_cores_has_its_own_box(rt: HostRuntime) -> Result<(), Fail> {
     let alloc = rt.alloc();
-    let setup = setup!(rt, 2, [], [], [], [], []);
+    let setup = setup!(rt, 3, [], [], [], [], []);
     let mut boxes = PlainBoxes::new(alloc, &setup)?;
     may_move_to_a_thread(&boxes);
-    assert_eq!(rt; boxes.try_take(1).err(), Some(Empty { seen: 0 }));
     let parcel = Parcel {
         notes: Vec::new(alloc),
         least: None,
     };
-    assert!(rt; boxes.try_post(1, parcel).is_ok());
+    assert!(rt; boxes.try_post(2, parcel).is_ok());
     boxes.serve(1);
+    assert_eq!(rt; boxes.try_take(0).err(), Some(Empty { seen: 0 }));
+    boxes.serve(2);
+    assert_eq!(rt; boxes.try_take(1).err(), Some(Empty { seen: 0 }));
     assert!(rt; boxes.try_take(0).is_ok());
     Ok(())
 }
