@@ -1,0 +1,10 @@
+pub mod CoreView
+pub mod Entering
+pub mod Handing
+pub mod Inside
+pub mod Stocked
+pub mod TallyView
+pub mod Trading
+pub mod Turns
+pub mod Work
+pub mod WorldState
