@@ -1,5 +1,5 @@
 -- The result of a core at the end of a run: its packets as they are settled, and its counts.
-use Rattle.std.specs.Prelude.{◌≡◌, ◌≢◌, ℕ, ◌==◌, ◌&&◌, not, Bool, false, List, [], length, map, filter, Option, Some, None, find, AllPairs}
+use Rattle.std.specs.Prelude.{◌≡◌, ◌≢◌, ℕ, ◌==◌, ◌&&◌, not, Bool, false, List, [], length, map, filter, Option, Some, None, find, slice_get, AllPairs}
 use Rattle.std.specs.Option.{option_map_or}
 use Rattle.std.specs.List.{zip}
 use Rattle.mn_base.specs.Among.{Among}
@@ -74,3 +74,8 @@ pub record IsResult (S : SetupView) (bytes : List (List ℕ)) (core : ℕ) (r : 
   pub pipe_counts : r.pipe_counts ≡ map (counts_of (journal_of S)) (own_pipes S core)
   -- and what it did itself
   pub counts : r.counts ≡ counts_at S core
+
+-- the results of all cores of the setup S, in core order, where its packets have these bytes
+pub record AreResults (S : SetupView) (bytes : List (List ℕ)) (results : List CoreResultView) : Type 0 where
+  pub one_a_core : length results ≡ S.cores
+  pub each : (core : ℕ) (r : CoreResultView) → slice_get results core ≡ Some r → IsResult S bytes core r

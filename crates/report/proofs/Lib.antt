@@ -1,4 +1,5 @@
-pub mod DistilledLines
+pub mod Clusters
 pub mod Limits
 pub mod NoCores
+pub mod NumberedLines
 pub mod Numbers

@@ -1,3 +1,4 @@
+pub mod Cluster
 pub mod Laws
 pub mod Pipes
 pub mod Report

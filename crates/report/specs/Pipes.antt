@@ -1,5 +1,5 @@
 -- The text of a distilled topology: what it is called, its mode, and a line for each pipe.
-use Rattle.std.specs.Prelude.{ℕ, ◌+◌, List, [], ◌∷◌, ◌++◌, length, codes, slice_index_or}
+use Rattle.std.specs.Prelude.{ℕ, List, ◌++◌, length, codes, slice_index_or}
 use Rattle.std.specs.Fmt.{decimal}
 use Rattle.topo.specs.declared.parts.Node.{Node}
 use Rattle.topo.specs.Nodes.{no_node}
@@ -8,7 +8,7 @@ use Rattle.distill.specs.declared.modes.Mode.{Mode}
 use Rattle.distill.specs.declared.modes.Mode.TheVariants.{Hop, Walk, End, WalkOut}
 use Rattle.distill.specs.declared.pipes.DistilledPipe.{DistilledPipe}
 use Rattle.distill.specs.Distilled.{DistilledView}
-use Rattle.report.specs.Report.{line}
+use Rattle.report.specs.Report.{line, numbered_lines}
 
 abbrev pub mode_word : Mode → List ℕ
 mode_word Hop = codes "hop"
@@ -37,13 +37,8 @@ distilled_line nodes n pipe = let params = pipe.params in
     ++ codes " keep " ++ decimal params.keep
     ++ codes " links " ++ decimal pipe.links)
 
--- lines of pipes that are numbered from n on
-abbrev pub distilled_lines : List Node → ℕ → List DistilledPipe → List ℕ
-distilled_lines nodes n [] = []
-distilled_lines nodes n (pipe ∷ pipes) = distilled_line nodes n pipe ++ distilled_lines nodes (n + 1) pipes
-
 unfoldable pub pipes_text : TopologyView → DistilledView → Mode → ℕ → List ℕ
 pipes_text t d mode tick_ns =
     line (codes "modelnet pipes 1")
     ++ mode_line mode tick_ns (length d.pipes)
-    ++ distilled_lines t.nodes 0 d.pipes
+    ++ numbered_lines (distilled_line t.nodes) 0 d.pipes

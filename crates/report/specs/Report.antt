@@ -14,6 +14,11 @@ use Rattle.settle.specs.OutcomeView.{OutcomeView}
 abbrev pub line : List ℕ → List ℕ
 line text = text ++ 10 ∷ []
 
+-- lines of what is numbered from n on
+abbrev pub numbered_lines : {X : Type 0} → (ℕ → X → List ℕ) → ℕ → List X → List ℕ
+numbered_lines line_of n [] = []
+numbered_lines line_of n (x ∷ xs) = line_of n x ++ numbered_lines line_of (n + 1) xs
+
 abbrev pub cause_word : Cause → List ℕ
 cause_word Loss = codes "loss"
 cause_word Full = codes "full"

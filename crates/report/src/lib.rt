@@ -1,14 +1,17 @@
-//! The two outputs of a run, the trace of the packets that left and the report, and the text of a distilled topology.
+//! The two outputs of a run, the trace of the packets that left and the report, the text of a distilled topology, and the cluster report.
 //! It stands on settle, journal, pcap_io, parcel, distill, topo and mn_base.
-//! Its contracts speak in `trace_of` (specs/Traces.antt), `report_text` (specs/Report.antt) and `pipes_text` (specs/Pipes.antt).
+//! Its contracts speak in `trace_of` (specs/Traces.antt), `report_text` (specs/Report.antt),
+//! `pipes_text` (specs/Pipes.antt) and `cluster_text` (specs/Cluster.antt).
 #![tactic(auto)]
 
+mod cluster_text;
 pub mod laws;
 mod lines;
 mod pipes_text;
 mod printing;
 mod traces;
 
+pub use cluster_text::print_cluster;
 pub use pipes_text::print_pipes;
 pub use printing::print_report;
 pub use traces::out_trace;

@@ -1,7 +1,7 @@
 ghost use Rattle.std.specs.Prelude.{◌≡◌, ◌++◌, ◌<◌, All, IfOk, OnOk, length, string_bytes, codes};
 ghost use Rattle.distill.specs.Distilled.{IsDistilled, IsPipeAmong};
-ghost use Rattle.report.specs.Report.{line};
-ghost use Rattle.report.specs.Pipes.{mode_word, mode_line, distilled_line, distilled_lines, pipes_text};
+ghost use Rattle.report.specs.Report.{line, numbered_lines};
+ghost use Rattle.report.specs.Pipes.{mode_word, mode_line, distilled_line, pipes_text};
 
 use distill::{Distilled, DistilledPipe, Mode};
 use mn_base::{Bytes, NoMemory};
@@ -69,7 +69,7 @@ fn write_distilled_lines(
     pipes: &[DistilledPipe],
 ) -> Result<(), NoMemory>
     requires { All (IsPipeAmong (length nodes.now)) pipes.now }
-    ensures { OnOk result (string_bytes text.new ≡ string_bytes text.old ++ distilled_lines nodes.now 0 pipes.now) }
+    ensures { OnOk result (string_bytes text.new ≡ string_bytes text.old ++ numbered_lines (distilled_line nodes.now) 0 pipes.now) }
 {
     for (number, pipe) in pipes.iter().enumerate() {
         write_distilled_line(text, nodes, number, pipe)?;

@@ -2,8 +2,10 @@ pub mod ByPacket
 pub mod Counts
 pub mod InOrder
 pub mod JournalWalks
+pub mod Joined
 pub mod Leavings
 pub mod Lists
+pub mod Merged
 pub mod NoCores
 pub mod OneOutcome
 pub mod Outcomes

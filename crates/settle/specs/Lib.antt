@@ -2,4 +2,5 @@ pub mod Counted
 pub mod IsOutcome
 pub mod Laws
 pub mod OutcomeView
+pub mod Settlements
 pub mod Ways

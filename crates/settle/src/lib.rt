@@ -6,9 +6,11 @@
 mod counting;
 mod gathering;
 pub mod laws;
+mod merging;
 mod outcome;
 
 pub use gathering::gather;
+pub use merging::merge;
 pub use outcome::{DropLine, Leaving, Outcome};
 
 #[cfg(test)]
