@@ -1,0 +1,24 @@
+-- `NothingFalls` is reflexive and transitive.
+use Rattle.std.specs.Prelude.{◌≡◌, ℕ, ◌≤◌, refl}
+use Rattle.std.proofs.Common.{arith, ◌∙◌}
+use Rattle.gate_ports.specs.GatePortsView.{GatePortsView, NothingFalls}
+
+pub falls_nowhere : (p : GatePortsView) → NothingFalls p p
+falls_nowhere p = record {
+  setup = refl;
+  core = refl;
+  posts = λ j. omega arith;
+  takes = λ j. omega arith;
+  post_misses = λ j. omega arith;
+  take_misses = λ j. omega arith;
+}
+
+pub falls_nowhere_between : (p q r : GatePortsView) → NothingFalls p q → NothingFalls q r → NothingFalls p r
+falls_nowhere_between p q r a b = record {
+  setup = b.setup ∙ a.setup;
+  core = b.core ∙ a.core;
+  posts = λ j. omega (arith, a.posts j, b.posts j);
+  takes = λ j. omega (arith, a.takes j, b.takes j);
+  post_misses = λ j. omega (arith, a.post_misses j, b.post_misses j);
+  take_misses = λ j. omega (arith, a.take_misses j, b.take_misses j);
+}

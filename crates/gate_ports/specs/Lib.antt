@@ -1,0 +1,4 @@
+pub mod Building
+pub mod GatePorts
+pub mod GatePortsLaws
+pub mod GatePortsView

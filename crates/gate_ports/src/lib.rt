@@ -1,0 +1,15 @@
+//! The ports of a core between threads: a lane to and from each other core.
+//!
+//! It stands on parcel, gate_box, journal and mn_base. Its contracts speak of `GatePortsView` (specs/GatePortsView.antt).
+#![tactic(auto)]
+
+mod gate_ports;
+mod lane_name;
+mod opening;
+
+pub use gate_ports::GatePorts;
+pub use lane_name::{LaneName, Parcels};
+pub use opening::lanes;
+
+#[cfg(test)]
+mod tests;
