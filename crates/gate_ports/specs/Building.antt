@@ -5,7 +5,7 @@ use Rattle.journal.specs.SetupView.{SetupView}
 use Rattle.gate_box.specs.EndView.{EndView}
 use Rattle.gate_ports.specs.declared.lane_name.LaneName.{LaneName}
 use Rattle.gate_ports.specs.GatePortsView.{EachAt}
-use Rattle.gate_ports.specs.GatePorts.{IsEnd}
+use Rattle.gate_ports.specs.GatePorts.{IsLaneEnd}
 
 -- a fact of each element before an index, and its own index
 abbrev pub EachBefore : {X : Type 0} → ℕ → (ℕ → X → Type 0) → List X → Type 0
@@ -17,7 +17,7 @@ EachFrom {X} begin P xs = (j : ℕ) (d : X) → begin ≤ j → j < length xs �
 
 -- an end of the lane from one core to another that was not used
 pub record IsIdle (S : SetupView) (sender receiver : ℕ) (e : EndView LaneName) : Type 0 where
-  pub is : IsEnd S sender receiver e
+  pub is : IsLaneEnd S sender receiver e
   pub next : e.next ≡ 0
   pub misses : e.misses ≡ 0
 

@@ -8,7 +8,7 @@ use Rattle.gate_ports.specs.declared.gate_ports.GatePorts.TheInside.{Inside}
 use Rattle.gate_ports.specs.GatePortsView.{GatePortsView}
 
 -- an end of the lane from one core to another
-pub record IsEnd (S : SetupView) (sender receiver : ℕ) (e : EndView LaneName) : Type 0 where
+pub record IsLaneEnd (S : SetupView) (sender receiver : ℕ) (e : EndView LaneName) : Type 0 where
   pub setup : e.name.setup.now ≡ S
   pub from : e.name.from ≡ sender
   pub to : e.name.to ≡ receiver
@@ -40,5 +40,5 @@ pub record AreEnds (s : Inside) : Type 0 where
   pub core : s.core < s.setup.now.cores
   pub sender_count : length s.senders.items ≡ s.setup.now.cores
   pub receiver_count : length s.receivers.items ≡ s.setup.now.cores
-  pub senders : (j : ℕ) (e : EndView LaneName) → j < s.setup.now.cores → IsEnd s.setup.now s.core j (slice_index_or s.senders.items j e)
-  pub receivers : (j : ℕ) (e : EndView LaneName) → j < s.setup.now.cores → IsEnd s.setup.now j s.core (slice_index_or s.receivers.items j e)
+  pub senders : (j : ℕ) (e : EndView LaneName) → j < s.setup.now.cores → IsLaneEnd s.setup.now s.core j (slice_index_or s.senders.items j e)
+  pub receivers : (j : ℕ) (e : EndView LaneName) → j < s.setup.now.cores → IsLaneEnd s.setup.now j s.core (slice_index_or s.receivers.items j e)
