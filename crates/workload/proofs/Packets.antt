@@ -10,7 +10,7 @@ use Rattle.pcap_io.specs.Capture.{IsPacket, IsTrace}
 use Rattle.pcap_io.specs.Writing.{header_text, record_header_text, record_text, pcap_text}
 use Rattle.workload.specs.declared.shape.TheConstants.{HOSTS}
 use Rattle.mn_base.specs.Draws.{state_at, draw_at}
-use Rattle.workload.specs.Trace.{length_at, gap_at, ip_header, packet_between, drawn_packet, time_of, packet_of, packets_of}
+use Rattle.workload.specs.Trace.{length_at, gap_at, ip_header, packet_between, drawn_packet, time_of, packet_by_draws, packets_by_draws}
 use Rattle.workload.proofs.Lines.{range-more}
 
 -- ---- one packet
@@ -62,33 +62,33 @@ time_of-le x (suc p) =
 
 -- ---- lists of packets
 
-packets_of-more : (x n : ℕ) → packets_of x (n + 1) ≡ packets_of x n ++ packet_of x n ∷ []
-unfolding packets_of
-packets_of-more x n = map-range_with_len_more (packet_of x) 0 n n (omega arith)
+packets_by_draws-more : (x n : ℕ) → packets_by_draws x (n + 1) ≡ packets_by_draws x n ++ packet_by_draws x n ∷ []
+unfolding packets_by_draws
+packets_by_draws-more x n = map-range_with_len_more (packet_by_draws x) 0 n n (omega arith)
 
-pub length-packets_of : (x n : ℕ) → length (packets_of x n) ≡ n
-unfolding packets_of
-length-packets_of x n = length-map (range_with_len 0 n) (packet_of x) ∙ length-range_with_len 0 n
+pub length-packets_by_draws : (x n : ℕ) → length (packets_by_draws x n) ≡ n
+unfolding packets_by_draws
+length-packets_by_draws x n = length-map (range_with_len 0 n) (packet_by_draws x) ∙ length-range_with_len 0 n
 
-pub no_packets : (x : ℕ) → [] ≡ flat_map record_text (packets_of x 0)
-unfolding packets_of
+pub no_packets : (x : ℕ) → [] ≡ flat_map record_text (packets_by_draws x 0)
+unfolding packets_by_draws
 no_packets x = refl
 
 pub next_record : (x s p time : ℕ) (before now now' : List ℕ) → time ≡ time_of x p → s ≡ state_at x (4 * p)
-    → now ≡ before ++ flat_map record_text (packets_of x p) → now' ≡ now ++ record_text (drawn_packet s time)
-    → now' ≡ before ++ flat_map record_text (packets_of x (p + 1))
+    → now ≡ before ++ flat_map record_text (packets_by_draws x p) → now' ≡ now ++ record_text (drawn_packet s time)
+    → now' ≡ before ++ flat_map record_text (packets_by_draws x (p + 1))
 next_record x s p time before now now' when at so_far is =
     is ∙ ap (λ t. now ++ record_text (drawn_packet t time)) at ∙ ap (λ t. now ++ record_text (drawn_packet (state_at x (4 * p)) t)) when
-    ∙ ap (λ l. l ++ record_text (packet_of x p)) so_far
-    ∙ flat_map_more record_text before (packets_of x p) (packet_of x p)
-    ∙ ap (λ ps. before ++ flat_map record_text ps) (sym (packets_of-more x p))
+    ∙ ap (λ l. l ++ record_text (packet_by_draws x p)) so_far
+    ∙ flat_map_more record_text before (packets_by_draws x p) (packet_by_draws x p)
+    ∙ ap (λ ps. before ++ flat_map record_text ps) (sym (packets_by_draws-more x p))
 
 -- ---- limits
 
 len-lt : (x : ℕ) → length_at x < 1501
 len-lt x = omega arith
 
-is_packet : (x p : ℕ) → p ≤ WORKLOAD_PACKETS_MAX → IsPacket (packet_of x p)
+is_packet : (x p : ℕ) → p ≤ WORKLOAD_PACKETS_MAX → IsPacket (packet_by_draws x p)
 is_packet x p few =
     let early = time_of-le x p in
     let len = len-lt (state_at x (4 * p)) in
@@ -108,14 +108,14 @@ All-numbers P f a zero each = λ i d within. absurd (omega arith)
 All-numbers P f a (suc n) each =
     All-cons P (f a) (map f (range_with_len (a + 1) n)) (each a (omega arith)) (All-numbers P f (a + 1) n (λ j low. each j (omega arith)))
 
-pub are_packets : (x n : ℕ) → n ≤ WORKLOAD_PACKETS_MAX → All IsPacket (packets_of x n)
-unfolding packets_of
-are_packets x n few = All-numbers IsPacket (packet_of x) 0 n (λ i low. is_packet x i (omega arith))
+pub are_packets : (x n : ℕ) → n ≤ WORKLOAD_PACKETS_MAX → All IsPacket (packets_by_draws x n)
+unfolding packets_by_draws
+are_packets x n few = All-numbers IsPacket (packet_by_draws x) 0 n (λ i low. is_packet x i (omega arith))
 
-pub is_trace : (x n : ℕ) → n ≤ WORKLOAD_PACKETS_MAX → IsTrace (record { link_type = LINK_TYPE_RAW; packets = packets_of x n })
+pub is_trace : (x n : ℕ) → n ≤ WORKLOAD_PACKETS_MAX → IsTrace (record { link_type = LINK_TYPE_RAW; packets = packets_by_draws x n })
 is_trace x n few = record {
   link_type = inr (inl refl);
-  count = omega (arith, length-packets_of x n);
+  count = omega (arith, length-packets_by_draws x n);
   packets = are_packets x n few;
 }
 
@@ -123,25 +123,25 @@ early_packet : (x p : ℕ) → p ≤ WORKLOAD_PACKETS_MAX → time_of x p / 10 ^
 early_packet x p few = let early = time_of-le x p in omega arith
 
 pub have_early_seconds : (x n : ℕ) → n ≤ WORKLOAD_PACKETS_MAX
-    → All (λ packet. packet.time_ns / 10 ^ 9 ≤ RECORD_SECONDS_MAX) (packets_of x n)
-unfolding packets_of
+    → All (λ packet. packet.time_ns / 10 ^ 9 ≤ RECORD_SECONDS_MAX) (packets_by_draws x n)
+unfolding packets_by_draws
 have_early_seconds x n few =
-    All-numbers (λ packet. packet.time_ns / 10 ^ 9 ≤ RECORD_SECONDS_MAX) (packet_of x) 0 n (λ i low. early_packet x i (omega arith))
+    All-numbers (λ packet. packet.time_ns / 10 ^ 9 ≤ RECORD_SECONDS_MAX) (packet_by_draws x) 0 n (λ i low. early_packet x i (omega arith))
 
-length-records : (x a n : ℕ) → length (flat_map record_text (map (packet_of x) (range_with_len a n))) ≡ 36 * n
+length-records : (x a n : ℕ) → length (flat_map record_text (map (packet_by_draws x) (range_with_len a n))) ≡ 36 * n
 length-records x a zero = refl
 length-records x a (suc n) =
     let one = length-record_text (state_at x (4 * a)) (time_of x a) in
     let rest = length-records x (a + 1) n in
-    length-append (record_text (packet_of x a)) (flat_map record_text (map (packet_of x) (range_with_len (a + 1) n))) ∙ omega arith
+    length-append (record_text (packet_by_draws x a)) (flat_map record_text (map (packet_by_draws x) (range_with_len (a + 1) n))) ∙ omega arith
 
 length-header_text : length (header_text LINK_TYPE_RAW) ≡ 24
 unfolding header_text
 length-header_text = refl
 
-pub length-trace : (x n : ℕ) → length (pcap_text (record { link_type = LINK_TYPE_RAW; packets = packets_of x n })) ≡ 24 + 36 * n
-unfolding packets_of
+pub length-trace : (x n : ℕ) → length (pcap_text (record { link_type = LINK_TYPE_RAW; packets = packets_by_draws x n })) ≡ 24 + 36 * n
+unfolding packets_by_draws
 length-trace x n =
     let head = length-header_text in
     let rest = length-records x 0 n in
-    length-append (header_text LINK_TYPE_RAW) (flat_map record_text (map (packet_of x) (range_with_len 0 n))) ∙ omega arith
+    length-append (header_text LINK_TYPE_RAW) (flat_map record_text (map (packet_by_draws x) (range_with_len 0 n))) ∙ omega arith

@@ -39,13 +39,13 @@ drawn_packet x time_ns = packet_between time_ns (length_at x) (draw_at x 0 HOSTS
 unfoldable pub time_of : ℕ → ℕ → ℕ
 time_of x p = sum_by (λ q. gap_at (state_at x (4 * q))) (range_with_len 0 p)
 
-abbrev pub packet_of : ℕ → ℕ → Packet
-packet_of x p = drawn_packet (state_at x (4 * p)) (time_of x p)
+abbrev pub packet_by_draws : ℕ → ℕ → Packet
+packet_by_draws x p = drawn_packet (state_at x (4 * p)) (time_of x p)
 
 -- the packets below n
-unfoldable pub packets_of : ℕ → ℕ → List Packet
-packets_of x n = map (packet_of x) (range_with_len 0 n)
+unfoldable pub packets_by_draws : ℕ → ℕ → List Packet
+packets_by_draws x n = map (packet_by_draws x) (range_with_len 0 n)
 
 -- the trace of a number, whose draws start where those of the GML text end
 abbrev pub workload_trace : ℕ → ℕ → Capture
-workload_trace number packets = record { link_type = LINK_TYPE_RAW; packets = packets_of (state_at number GML_DRAWS) packets }
+workload_trace number packets = record { link_type = LINK_TYPE_RAW; packets = packets_by_draws (state_at number GML_DRAWS) packets }

@@ -3,7 +3,7 @@ ghost use Rattle.mn_base.specs.declared.limits.TheConstants.{LINK_TYPE_RAW, WORK
 ghost use Rattle.mn_base.specs.Draws.{state_at};
 ghost use Rattle.pcap_io.specs.Writing.{header_text, record_text, pcap_text};
 ghost use Rattle.workload.specs.declared.shape.TheConstants.{HOSTS};
-ghost use Rattle.workload.specs.Trace.{gap_at, packet_between, drawn_packet, packets_of};
+ghost use Rattle.workload.specs.Trace.{gap_at, packet_between, drawn_packet, packets_by_draws};
 
 use crate::shape::HOSTS;
 use mn_base::{Draws, NoMemory};
@@ -21,7 +21,7 @@ const RECORD_BYTES: usize = 36;
 pub fn trace_text(alloc: Global, draws: &mut Draws, packets: u32) -> Result<Vec<u8>, NoMemory>
     requires { packets ≤ WORKLOAD_PACKETS_MAX }
     ensures text { IfOk result (λ text. text.items ≡
-        pcap_text (record { link_type = LINK_TYPE_RAW; packets = packets_of draws.old packets })) }
+        pcap_text (record { link_type = LINK_TYPE_RAW; packets = packets_by_draws draws.old packets })) }
 {
     let mut text = Vec::with_capacity(alloc, HEADER.len() + RECORD_BYTES * packets as usize)?;
     text.extend_from_slice(&HEADER)?;

@@ -6,7 +6,7 @@ use Rattle.pcap_io.proofs.ReadsBack.{reads_back}
 use Rattle.workload.specs.declared.shape.TheConstants.{GML_DRAWS}
 use Rattle.mn_base.specs.Draws.{state_at}
 use Rattle.workload.specs.Gml.{workload_gml}
-use Rattle.workload.specs.Trace.{packets_of, workload_trace}
+use Rattle.workload.specs.Trace.{packets_by_draws, workload_trace}
 use Rattle.workload.proofs.Packets.{is_trace, have_early_seconds, length-trace}
 use Rattle.workload.proofs.Sizes.{gml_fits}
 use Rattle.workload.proofs.texts.workload.Goals as goal
@@ -20,7 +20,7 @@ returns c =
     rw (c.from_vec.ensures.same, c.into_bytes.ensures.value) (c.in_ok-gml.ensures.text ∙ ap workload_gml c.new-draws.ensures.state) in
     let trace : c.from_vec-2.result ≡ pcap_text (workload_trace c.args.number c.args.packets) =
     c.from_vec-2.ensures.same ∙ c.in_ok-trace.ensures.text
-    ∙ ap (λ (s : ℕ). pcap_text (record { link_type = LINK_TYPE_RAW; packets = packets_of s c.args.packets })) state in
+    ∙ ap (λ (s : ℕ). pcap_text (record { link_type = LINK_TYPE_RAW; packets = packets_by_draws s c.args.packets })) state in
     let trace_length : length c.from_vec-2.result ≡ 24 + 36 * c.args.packets =
     ap (λ (text : List ℕ). length text) trace ∙ length-trace x c.args.packets in
     record {
