@@ -13,7 +13,7 @@ use Rattle.mn_words.specs.declared.opt.WordsFault.{WordsFault}
 use Rattle.mn_words.specs.declared.opt.WordsFault.TheVariants.{Value}
 use Rattle.mn_words.specs.Form.{value_of}
 use Rattle.mn_words.specs.Items.{Item}
-use Rattle.mn_words.specs.Values.{tick_of, mode_of, loss_of}
+use Rattle.mn_words.specs.Values.{tick_of, cores_of, mode_of, loss_of}
 
 -- what the text of an option says, and a default where the option is left out
 abbrev pub read_or : {A : Type 0} → A → (List ℕ → Option A) → Option (List ℕ) → Option A
@@ -26,6 +26,9 @@ option_or opt name default read items = ok_or (read_or default read (value_of na
 
 abbrev pub mode_in : List Item → Result Mode WordsFault
 mode_in items = option_or opt.Mode (codes "--mode") Hop mode_of items
+
+abbrev pub cores_in : List Item → Result ℕ WordsFault
+cores_in items = option_or opt.Cores (codes "--cores") 1 cores_of items
 
 abbrev pub seed_in : List Item → Result ℕ WordsFault
 seed_in items = option_or opt.Seed (codes "--seed") 0 decimal_of items

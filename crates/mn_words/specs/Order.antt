@@ -1,6 +1,6 @@
 -- What a command line asks for.
 use Rattle.std.specs.Prelude.{ℕ, ◌≤◌, List, length, All}
-use Rattle.mn_base.specs.declared.limits.TheConstants.{CHAIN_PIPES_MAX}
+use Rattle.mn_base.specs.declared.limits.TheConstants.{CHAIN_PIPES_MAX, CORES_MAX}
 use Rattle.mn_base.specs.Ranges.{AreInRange, IsTickLength}
 use Rattle.distill.specs.declared.modes.Mode.{Mode}
 use Rattle.distill.specs.Modes.{IsMode}
@@ -23,6 +23,16 @@ pub record DistillView : Type 0 where
   pub mode : Mode
   pub tick_ns : ℕ
 
+-- what contracts see of an `AssignOrder`
+pub record AssignView : Type 0 where
+  pub topology : List ℕ
+  pub mode : Mode
+  pub cores : ℕ
+
+-- a number of cores is from 1 to `CORES_MAX`
+abbrev pub IsCoreCount : ℕ → Type 0
+IsCoreCount cores = (1 ≤ cores) × (cores ≤ CORES_MAX)
+
 -- a pipe within the limits of a link
 abbrev pub IsPipeSpec : PipeSpec → Type 0
 IsPipeSpec pipe = AreInRange pipe.bps pipe.latency_us pipe.queue pipe.ppm
@@ -38,3 +48,8 @@ pub record IsChainOrder (order : ChainView) : Type 0 where
 pub record IsDistillOrder (order : DistillView) : Type 0 where
   pub mode : IsMode order.mode
   pub tick : IsTickLength order.tick_ns
+
+-- an order within the limits of `assign`
+pub record IsAssignOrder (order : AssignView) : Type 0 where
+  pub mode : IsMode order.mode
+  pub cores : IsCoreCount order.cores

@@ -4,15 +4,15 @@ use Rattle.std.specs.Prelude.{ℕ, true, false, List, [], ◌∷◌, Option, Som
 use Rattle.mn_words.specs.declared.command.Command.{Command}
 use Rattle.mn_words.specs.declared.command.Command.TheVariants as command
 use Rattle.mn_words.specs.declared.order.Order.{Order}
-use Rattle.mn_words.specs.declared.order.Order.TheVariants.{Chain, Distill}
+use Rattle.mn_words.specs.declared.order.Order.TheVariants.{Chain, Distill, Assign}
 use Rattle.mn_words.specs.declared.order.PipeSpec.{PipeSpec}
 use Rattle.mn_words.specs.declared.opt.Opt.TheVariants.{Pipe}
 use Rattle.mn_words.specs.declared.opt.WordsFault.{WordsFault}
 use Rattle.mn_words.specs.declared.opt.WordsFault.TheVariants.{Value}
 use Rattle.mn_words.specs.Form.{Form, bare_words}
 use Rattle.mn_words.specs.Items.{Item}
-use Rattle.mn_words.specs.Options.{mode_in, seed_in, tick_in, loss_in, text_in}
-use Rattle.mn_words.specs.Order.{ChainView, DistillView}
+use Rattle.mn_words.specs.Options.{mode_in, cores_in, seed_in, tick_in, loss_in, text_in}
+use Rattle.mn_words.specs.Order.{ChainView, DistillView, AssignView}
 use Rattle.mn_words.specs.Values.{chain_pipes}
 
 infixl 10 ◌>>=◌
@@ -25,6 +25,7 @@ unfoldable pub command_of : List ℕ → Option Command
 command_of word =
     if bytes_eq word (codes "chain") then Some command.Chain else
     if bytes_eq word (codes "distill") then Some command.Distill else
+    if bytes_eq word (codes "assign") then Some command.Assign else
     None
 
 -- a row for each command: the options that are required, those that may stand, too, and whether there are PIPEs
@@ -37,6 +38,11 @@ form_of command.Chain = record {
 form_of command.Distill = record {
   needs = codes "--topology" ∷ [];
   may_have = codes "--mode" ∷ codes "--tick-ns" ∷ [];
+  takes_pipes = false;
+}
+form_of command.Assign = record {
+  needs = codes "--topology" ∷ [];
+  may_have = codes "--mode" ∷ codes "--cores" ∷ [];
   takes_pipes = false;
 }
 
@@ -68,6 +74,13 @@ distill_of items = do
   tick_ns ← tick_in items
   Ok (record { topology = text_in (codes "--topology") items; mode = mode; tick_ns = tick_ns })
 
+-- the same of the items behind `assign`
+unfoldable pub assign_of : List Item → Result AssignView WordsFault
+assign_of items = do
+  mode ← mode_in items
+  cores ← cores_in items
+  Ok (record { topology = text_in (codes "--topology") items; mode = mode; cores = cores })
+
 -- an arm for each command
 unfoldable pub order_of : Command → List Item → Result Order WordsFault
 order_of command.Chain items = do
@@ -76,3 +89,6 @@ order_of command.Chain items = do
 order_of command.Distill items = do
   order ← distill_of items
   Ok (Distill order)
+order_of command.Assign items = do
+  order ← assign_of items
+  Ok (Assign order)

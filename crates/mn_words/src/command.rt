@@ -8,6 +8,7 @@ use crate::form::Form;
 pub enum Command {
     Chain,
     Distill,
+    Assign,
 }
 
 /// The command of a word.
@@ -19,6 +20,8 @@ pub fn command_of(word: &str) -> Option<Command>
         Some(Command::Chain)
     } else if word == "distill" {
         Some(Command::Distill)
+    } else if word == "assign" {
+        Some(Command::Assign)
     } else {
         None
     }
@@ -38,6 +41,11 @@ pub fn form_of(command: Command) -> Form
         Command::Distill => Form {
             needs: &["--topology"],
             may_have: &["--mode", "--tick-ns"],
+            takes_pipes: false,
+        },
+        Command::Assign => Form {
+            needs: &["--topology"],
+            may_have: &["--mode", "--cores"],
             takes_pipes: false,
         },
     }

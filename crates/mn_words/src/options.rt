@@ -2,13 +2,14 @@ ghost use Rattle.std.specs.Prelude.{◌≡◌, IfOk};
 ghost use Rattle.mn_base.specs.Ranges.{IsTickLength};
 ghost use Rattle.distill.specs.Modes.{IsMode};
 ghost use Rattle.mn_words.specs.Items.{items_of};
-ghost use Rattle.mn_words.specs.Options.{mode_in, seed_in, tick_in, loss_in, text_in};
+ghost use Rattle.mn_words.specs.Options.{mode_in, cores_in, seed_in, tick_in, loss_in, text_in};
+ghost use Rattle.mn_words.specs.Order.{IsCoreCount};
 
 use crate::form::value_of;
 use crate::opt::{Opt, WordsFault};
 use crate::order::FileName;
 use crate::rest::Rest;
-use crate::values::{loss_of, mode_of, tick_of};
+use crate::values::{cores_of, loss_of, mode_of, tick_of};
 use distill::Mode;
 use journal::LossBy;
 use mn_base::limits::TICK_NS_DEFAULT;
@@ -23,6 +24,17 @@ pub fn mode_in(words: Rest) -> Result<Mode, WordsFault>
     match value_of(words, "--mode") {
         None => Ok(Mode::Hop),
         Some(text) => mode_of(text).ok_or(WordsFault::Value(Opt::Mode)),
+    }
+}
+
+/// `--cores`: how many cores there are, and one without it.
+pub fn cores_in(words: Rest) -> Result<u32, WordsFault>
+    ensures value { result ≡ cores_in (items_of words.entry) }
+    ensures range { IfOk result IsCoreCount }
+{
+    match value_of(words, "--cores") {
+        None => Ok(1),
+        Some(text) => cores_of(text).ok_or(WordsFault::Value(Opt::Cores)),
     }
 }
 

@@ -107,6 +107,29 @@ impl Model for DistillOrder {
     } };
 }
 
+/// What `assign` is asked for.
+#[derive(Drop)]
+pub struct AssignOrder {
+    /// The topology that is read.
+    pub topology: FileName,
+    /// How much of it is kept.
+    pub mode: Mode,
+    /// How many cores the pipes are dealt to.
+    pub cores: u32,
+}
+
+impl Model for AssignOrder {
+    ghost use Rattle.mn_words.specs.Order.{AssignView};
+
+    ghost Value = { AssignView };
+
+    ghost view = { λ o. record {
+      topology = o.topology;
+      mode = o.mode;
+      cores = o.cores;
+    } };
+}
+
 /// What a command line asks for.
 #[derive(Drop)]
 pub enum Order {
@@ -114,4 +137,6 @@ pub enum Order {
     Chain(ChainOrder),
     /// Prints the pipes of a distilled topology.
     Distill(DistillOrder),
+    /// Prints which core owns each pipe of a distilled topology.
+    Assign(AssignOrder),
 }

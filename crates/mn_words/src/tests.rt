@@ -1,6 +1,6 @@
 //! Lines of words, with what comes of each by the rules.
 use crate::opt::{Opt, WordsFault};
-use crate::order::{ChainOrder, DistillOrder, Order, PipeSpec};
+use crate::order::{AssignOrder, ChainOrder, DistillOrder, Order, PipeSpec};
 use crate::words::read_words;
 use distill::Mode;
 use journal::LossBy;
@@ -44,6 +44,13 @@ fn distill_order(rt: &(impl Abort + AllocGlobal), line: &str) -> DistillOrder {
     match order_of(rt, line) {
         Order::Distill(order) => order,
         _ => panic!(rt; "no order to distill: {line}"),
+    }
+}
+
+fn assign_order(rt: &(impl Abort + AllocGlobal), line: &str) -> AssignOrder {
+    match order_of(rt, line) {
+        Order::Assign(order) => order,
+        _ => panic!(rt; "no order to assign: {line}"),
     }
 }
 
@@ -94,7 +101,12 @@ distill x --topology t
 distill --topology t --seed 1
 distill --topology t --loss packet
 distill --topology=t --mode
-distill --topology=t --tick-ns";
+distill --topology=t --tick-ns
+assign
+assign --cores 2
+assign --topology t --cores
+assign --topology t --tick-ns 1000
+assign --topology t 1000:0:1:0";
     assert_faults(&rt, lines, WordsFault::Form);
     Ok(())
 }
@@ -128,7 +140,8 @@ fn every_front_of_a_line(rt: HostRuntime) -> Result<(), Fail> {
             Ok(_) => "order",
             Err(Refusal::Fault(WordsFault::Command)) => "command",
             Err(Refusal::Fault(WordsFault::Form)) => "form",
-            Err(_) => "another fault",
+            Err(Refusal::Fault(_)) => "value",
+            Err(Refusal::NoMemory) => "out of memory",
         };
         assert_eq!(rt; found, comes, "at {front}");
     }
@@ -146,7 +159,8 @@ chain --trace t --out o --report r --seed 1 --seed 1 1000:0:1:0
 chain --trace t --out o --report r 1000:0:1:0 --loss packet --loss packet
 distill --topology t --topology=t
 distill --mode hop --topology t --mode hop
-distill --tick-ns=1000 --tick-ns=1000 --topology t";
+distill --tick-ns=1000 --tick-ns=1000 --topology t
+assign --cores 2 --topology t --cores=2";
     assert_faults(&rt, lines, WordsFault::Form);
     Ok(())
 }
@@ -224,6 +238,32 @@ distill --tick-ns 1 --topology t --mode hop=end";
         "distill --tick-ns 999 --topology t",
         WordsFault::Value(Opt::TickNs),
     );
+    Ok(())
+}
+
+#[test]
+fn a_wrong_number_of_cores(rt: HostRuntime) -> Result<(), Fail> {
+    let cores = "\
+assign --topology t --cores 17
+assign --topology t --cores=17
+assign --topology t --cores 0
+assign --cores --mode --topology t";
+    assert_faults(&rt, cores, WordsFault::Value(Opt::Cores));
+    let mode = "assign --cores 17 --topology t --mode walk:0";
+    assert_faults(&rt, mode, WordsFault::Value(Opt::Mode));
+    Ok(())
+}
+
+#[test]
+fn what_is_to_be_assigned(rt: HostRuntime) -> Result<(), Fail> {
+    let order = assign_order(&rt, "assign --topology t");
+    assert_eq!(rt; order.topology.as_str(), "t");
+    assert_eq!(rt; order.mode, Mode::Hop);
+    assert_eq!(rt; order.cores, 1);
+    let order = assign_order(&rt, "assign --cores=16 --mode walk:1 --topology --cores=17");
+    assert_eq!(rt; order.topology.as_str(), "--cores=17");
+    assert_eq!(rt; order.mode, Mode::Walk(1));
+    assert_eq!(rt; order.cores, 16);
     Ok(())
 }
 

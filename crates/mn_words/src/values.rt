@@ -1,15 +1,15 @@
 ghost use Rattle.std.specs.Prelude.{◌≡◌, ◌≤◌, [], ◌∷◌, IfSome, MatchOption, None};
 ghost use Rattle.mn_base.specs.Ranges.{IsTickLength};
 ghost use Rattle.distill.specs.Modes.{IsFrontierCount, IsMode};
-ghost use Rattle.mn_words.specs.Values.{number_within, colon_parts, pipe_spec_of, tick_of, loss_of, mode_of, walk_of, walk_numbers, frontier_count};
-ghost use Rattle.mn_words.specs.Order.{IsPipeSpec};
+ghost use Rattle.mn_words.specs.Values.{number_within, colon_parts, pipe_spec_of, tick_of, cores_of, loss_of, mode_of, walk_of, walk_numbers, frontier_count};
+ghost use Rattle.mn_words.specs.Order.{IsCoreCount, IsPipeSpec};
 
 use crate::order::PipeSpec;
 use distill::Mode;
 use journal::LossBy;
 use mn_base::limits::{
-    BPS_MAX, BPS_MIN, FRONTIERS_MAX, LINK_LATENCY_US_MAX, LOSS_PPM_MAX, QUEUE_MAX, QUEUE_MIN,
-    TICK_NS_MAX, TICK_NS_MIN,
+    BPS_MAX, BPS_MIN, CORES_MAX, FRONTIERS_MAX, LINK_LATENCY_US_MAX, LOSS_PPM_MAX, QUEUE_MAX,
+    QUEUE_MIN, TICK_NS_MAX, TICK_NS_MIN,
 };
 use mn_base::read_u64;
 
@@ -34,6 +34,15 @@ pub fn tick_of(text: &str) -> Option<u64>
     ensures range { IfSome result IsTickLength }
 {
     number_within(text, TICK_NS_MIN, TICK_NS_MAX)
+}
+
+/// How many cores a text names: from 1 to 16.
+pub fn cores_of(text: &str) -> Option<u32>
+    ensures value { result ≡ cores_of text.now }
+    ensures range { IfSome result IsCoreCount }
+{
+    let count = number_within(text, 1, u64::from(CORES_MAX))?;
+    Some(count as u32)
 }
 
 /// `packet` or `arrival`.

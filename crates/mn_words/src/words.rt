@@ -2,14 +2,14 @@ ghost use Rattle.std.specs.Prelude.{◌≡◌, ◌≤◌, length, Some, Ok, Err,
 ghost use Rattle.mn_base.specs.Refused.{IfFault};
 ghost use Rattle.mn_words.specs.Form.{bare_words, has_form};
 ghost use Rattle.mn_words.specs.Items.{items_of};
-ghost use Rattle.mn_words.specs.Order.{IsChainOrder, IsDistillOrder};
-ghost use Rattle.mn_words.specs.TheCommands.{form_of, order_of, chain_of, distill_of};
+ghost use Rattle.mn_words.specs.Order.{IsAssignOrder, IsChainOrder, IsDistillOrder};
+ghost use Rattle.mn_words.specs.TheCommands.{form_of, order_of, chain_of, distill_of, assign_of};
 ghost use Rattle.mn_words.specs.Words.{ordered, texts, IsInRange};
 
 use crate::command::{Command, command_of, form_of};
 use crate::opt::WordsFault;
-use crate::options::{file_in, loss_in, mode_in, seed_in, tick_in};
-use crate::order::{ChainOrder, DistillOrder, Order};
+use crate::options::{cores_in, file_in, loss_in, mode_in, seed_in, tick_in};
+use crate::order::{AssignOrder, ChainOrder, DistillOrder, Order};
 use crate::pipes::chain_pipes;
 use crate::rest::Rest;
 use mn_base::Refusal;
@@ -20,11 +20,12 @@ use std::alloc::Global;
 /// - `chain --trace F --out F --report F --tick-ns N (100000) --seed N (0) --loss L (packet) PIPE..` replays a trace through 1 to
 ///   16 pipes.
 /// - `distill --topology F --mode M (hop) --tick-ns N (100000)` prints the pipes of a distilled topology.
+/// - `assign --topology F --mode M (hop) --cores N (1)` prints which core owns each of these pipes.
 ///
 /// What stands in brackets holds where the option is left out; the others are required. Options and PIPEs
 /// may be mixed. An option is `--name value`, whatever the value's word is, or `--name=value`, parted at the
-/// first `=`. A PIPE is `BPS:LATENCY_US:QUEUE:PPM`, M is `hop`, `end`, `walk:W` or `walk:W:O` with numbers from 1 to 4,096, and L
-/// is `packet` or `arrival`.
+/// first `=`. A PIPE is `BPS:LATENCY_US:QUEUE:PPM`, M is `hop`, `end`, `walk:W` or `walk:W:O` with numbers from 1 to 4,096, L is
+/// `packet` or `arrival`, and there are 1 to 16 cores.
 ///
 /// # Errors
 ///
@@ -62,6 +63,7 @@ fn order_of(alloc: Global, command: Command, words: Rest) -> Result<Order, Refus
     match command {
         Command::Chain => Ok(Order::Chain(chain_of(alloc, words)?)),
         Command::Distill => Ok(Order::Distill(distill_of(alloc, words)?)),
+        Command::Assign => Ok(Order::Assign(assign_of(alloc, words)?)),
     }
 }
 
@@ -103,5 +105,21 @@ fn distill_of(alloc: Global, words: Rest) -> Result<DistillOrder, Refusal<WordsF
         topology,
         mode,
         tick_ns,
+    })
+}
+
+#[tactic(auto, unfolding(crate::specs::TheCommands::assign_of))]
+fn assign_of(alloc: Global, words: Rest) -> Result<AssignOrder, Refusal<WordsFault>>
+    ensures order { IfOk result (λ order. assign_of (items_of words.entry) ≡ Ok order) }
+    ensures ranges { IfOk result IsAssignOrder }
+    ensures fault { IfErr result (λ e. IfFault e (λ fault. assign_of (items_of words.entry) ≡ Err fault)) }
+{
+    let mode = mode_in(words.again())?;
+    let cores = cores_in(words.again())?;
+    let topology = file_in(alloc, words, "--topology")?;
+    Ok(AssignOrder {
+        topology,
+        mode,
+        cores,
     })
 }
