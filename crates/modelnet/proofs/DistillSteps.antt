@@ -5,12 +5,12 @@ use Rattle.mn_words.specs.Order.{DistillView}
 use Rattle.modelnet.specs.declared.read_limits.ReadLimits.{ReadLimits}
 use Rattle.modelnet.specs.declared.status.Status.{Status}
 use Rattle.modelnet.specs.Roles.{input, output}
-use Rattle.modelnet.specs.TheCommands.{distill_refuses, distill_command}
+use Rattle.modelnet.specs.TheCommands.{topology_refuses, distill_command}
 use Rattle.modelnet.proofs.DistillSound.{distill_is_sound}
 use Rattle.modelnet.proofs.OneToOne.{IsOneToOne}
 
 -- nothing is refused before the topology is read
-nothing_refused : (order : DistillView) (status : Status) → distill_refuses order [] status → ⊥
+nothing_refused : (order : DistillView) (status : Status) → topology_refuses order.mode [] status → ⊥
 nothing_refused order status is = is
 
 pub distill_is_one : (limits : ReadLimits) (order : DistillView)

@@ -1,9 +1,10 @@
+pub mod AssignSound
+pub mod AssignSteps
 pub mod ChainSetup
 pub mod ChainSound
 pub mod ChainSteps
 pub mod Chains
 pub mod Copies
-pub mod DistillRun
 pub mod DistillSound
 pub mod DistillSteps
 pub mod Exact
@@ -12,3 +13,5 @@ pub mod OneRun
 pub mod OneToOne
 pub mod Outputs
 pub mod Sound
+pub mod TopologyRefused
+pub mod TopologySound

@@ -1,7 +1,7 @@
 -- The commands are sound, and so a command line is answered exactly.
 use Rattle.std.proofs.Common.{◌≡◌, ℕ, List, Ok, Err, refl, sym, ◌∙◌, ap, subst, inl, inr}
 use Rattle.mn_words.specs.declared.order.Order.{Order}
-use Rattle.mn_words.specs.declared.order.Order.TheVariants.{Chain, Distill}
+use Rattle.mn_words.specs.declared.order.Order.TheVariants.{Chain, Distill, Assign}
 use Rattle.mn_words.specs.declared.opt.WordsFault.{WordsFault}
 use Rattle.mn_words.specs.Words.{ordered}
 use Rattle.modelnet.specs.declared.read_limits.ReadLimits.{ReadLimits}
@@ -12,12 +12,14 @@ use Rattle.modelnet.specs.Exact.{IsSoundCommand, IsOrNoMemory}
 use Rattle.modelnet.specs.TheCommands.{row_of}
 use Rattle.modelnet.specs.Answers.{IsOrdered, Answers, IsExact, WordsAndBytesHaveOneOutcome}
 use Rattle.modelnet.proofs.Exact.{must_answer}
+use Rattle.modelnet.proofs.AssignSound.{assign_is_sound}
 use Rattle.modelnet.proofs.ChainSound.{chain_is_sound}
 use Rattle.modelnet.proofs.DistillSound.{distill_is_sound}
 
 pub is_sound : (limits : ReadLimits) (order : Order) → IsSoundCommand (row_of limits order)
 is_sound limits (Chain order) = chain_is_sound limits order
 is_sound limits (Distill order) = distill_is_sound limits order
+is_sound limits (Assign order) = assign_is_sound limits order
 
 -- two orders of the same words are one
 one_order : (words : List (List ℕ)) (one other : Order) → ordered words ≡ Ok one → ordered words ≡ Ok other → one ≡ other
@@ -37,6 +39,13 @@ answered limits words old new NoMemory order is a = λ role unread.
 answered limits words old new (BadWords fault) order is a =
     let clash : Ok order ≡ Err fault = sym is ∙ a.0 in absurd cc
 answered limits words old new answer order is a = same_order limits words old new answer order is a
+
+-- and the answer of that command is an answer of the command line
+pub is_answered : (limits : ReadLimits) (words : List (List ℕ)) (old new : Host) (answer : Status) (order : Order) → ordered words ≡ Ok order
+    → Answered (row_of limits order) old new answer → Answers limits words old new answer
+is_answered limits words old new NoMemory order is a = λ role unread. a role (unread order is)
+is_answered limits words old new (BadWords fault) order is a = absurd a
+is_answered limits words old new answer order is a = record { order = order; ordered_is = is; answered = a }
 
 no_order : (words : List (List ℕ)) (order : Order) (fault : WordsFault) → ordered words ≡ Ok order → ordered words ≡ Err fault → ⊥
 no_order words order fault is not =

@@ -3,8 +3,9 @@ use Rattle.std.specs.Prelude.{◌≤◌, ℕ, List, [], ◌∷◌, codes}
 use Rattle.mn_base.specs.declared.limits.TheConstants.{TOPOLOGY_BYTES_MAX, TRACE_BYTES_MAX}
 use Rattle.mn_edge.specs.declared.role.Role.TheVariants.{Topology, Trace, Out, Report, Screen}
 use Rattle.mn_words.specs.declared.order.Order.{Order}
-use Rattle.mn_words.specs.declared.order.Order.TheVariants.{Chain, Distill}
-use Rattle.mn_words.specs.Order.{ChainView, DistillView}
+use Rattle.mn_words.specs.declared.order.Order.TheVariants.{Chain, Distill, Assign}
+use Rattle.mn_words.specs.Order.{ChainView, DistillView, AssignView}
+use Rattle.distill.specs.declared.modes.Mode.{Mode}
 use Rattle.pcapng_in.specs.declared.fault.CaptureFault.TheVariants.{Pcap, Ng}
 use Rattle.pcapng_in.specs.CaptureFile.{CaptureFirst}
 use Rattle.gml_reader.specs.Texts.{IsFirstFault}
@@ -14,7 +15,7 @@ use Rattle.modelnet.specs.declared.status.Status.{Status}
 use Rattle.modelnet.specs.declared.status.Status.TheVariants.{BadTopology, BadTrace, BadPlan, BadCapture}
 use Rattle.modelnet.specs.Roles.{input, output}
 use Rattle.modelnet.specs.Run.{SaysRun}
-use Rattle.modelnet.specs.Distilling.{SaysPipes, HasTooManyPipes}
+use Rattle.modelnet.specs.Distilling.{SaysPipes, SaysOwners, HasTooManyPipes}
 use Rattle.modelnet.specs.Commands.{Command}
 
 -- `chain` refuses the trace by its first fault, which is one of its format
@@ -36,29 +37,40 @@ chain_command limits order = record {
   writes = chain_writes order;
 }
 
--- `distill` refuses the topology by its first fault, or since it has too many pipes
-abbrev pub distill_refuses : DistillView → List (List ℕ) → Status → Type 0
-distill_refuses order (topology ∷ []) (BadTopology fault) = IsFirstFault topology fault
-distill_refuses order (topology ∷ []) (BadPlan (TooManyPipes count)) = HasTooManyPipes order topology count
-distill_refuses order read refusal = ⊥
+-- a topology is refused by its first fault, or since it has too many pipes in the mode
+abbrev pub topology_refuses : Mode → List (List ℕ) → Status → Type 0
+topology_refuses mode (topology ∷ []) (BadTopology fault) = IsFirstFault topology fault
+topology_refuses mode (topology ∷ []) (BadPlan (TooManyPipes count)) = HasTooManyPipes mode topology count
+topology_refuses mode read refusal = ⊥
+
+-- one output is written, which says this of the one input
+abbrev pub writes_one : (List ℕ → List ℕ → Type 0) → List (List ℕ) → List (List ℕ) → Type 0
+writes_one Says (bytes ∷ []) (text ∷ []) = Says bytes text
+writes_one Says read written = ⊥
 
 -- `distill` writes the pipes of the distilled topology
-abbrev pub distill_writes : DistillView → List (List ℕ) → List (List ℕ) → Type 0
-distill_writes order (topology ∷ []) (screen ∷ []) = SaysPipes order topology screen
-distill_writes order read written = ⊥
-
 abbrev pub distill_command : ReadLimits → DistillView → Command
 distill_command limits order = record {
   inputs = input Topology order.topology limits.topology ∷ [];
   outputs = output Screen (codes "-") ∷ [];
-  refuses = distill_refuses order;
-  writes = distill_writes order;
+  refuses = topology_refuses order.mode;
+  writes = writes_one (SaysPipes order);
+}
+
+-- `assign` writes the directory of the assignment
+abbrev pub assign_command : ReadLimits → AssignView → Command
+assign_command limits order = record {
+  inputs = input Topology order.topology limits.topology ∷ [];
+  outputs = output Screen (codes "-") ∷ [];
+  refuses = topology_refuses order.mode;
+  writes = writes_one (SaysOwners order);
 }
 
 -- the row of an order, where no more bytes of a role are read than these limits
 abbrev pub row_of : ReadLimits → Order → Command
 row_of limits (Chain order) = chain_command limits order
 row_of limits (Distill order) = distill_command limits order
+row_of limits (Assign order) = assign_command limits order
 
 -- the most bytes that are read of each role
 abbrev pub usual_limits : ReadLimits

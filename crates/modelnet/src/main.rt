@@ -10,12 +10,15 @@ ghost use Rattle.modelnet.specs.Ends.{IsEnding};
 ghost use Rattle.modelnet.specs.Statuses.{status_number};
 ghost use Rattle.mn_words.specs.Words.{texts};
 
+mod assign_command;
+mod assign_run;
 mod chain_command;
 mod chain_run;
 mod chain_setup;
 mod command_line;
 mod distill_command;
 mod distill_run;
+mod distilling;
 mod laws;
 mod plain;
 mod plan_fault;

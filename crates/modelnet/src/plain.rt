@@ -5,6 +5,7 @@ ghost use Rattle.modelnet.specs.Commands.{Answered};
 ghost use Rattle.modelnet.specs.TheCommands.{row_of, usual_limits, AreWithinUsual};
 ghost use Rattle.mn_words.specs.Words.{texts, IsInRange};
 
+use crate::assign_command::assign;
 use crate::chain_command::chain;
 use crate::distill_command::distill;
 use crate::read_limits::ReadLimits;
@@ -61,6 +62,7 @@ fn command<H: Host>(alloc: Global, limits: &ReadLimits, order: &Order, host: &mu
     let done = match order {
         Order::Chain(order) => chain(alloc, limits, order, host),
         Order::Distill(order) => distill(alloc, limits, order, host),
+        Order::Assign(order) => assign(alloc, limits, order, host),
     };
     match done {
         Ok(()) => Status::Done,

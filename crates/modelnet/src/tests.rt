@@ -1,25 +1,26 @@
 // Out of memory may stand in the place of any answer, and no contract can rule that out. So each status that a command has
 // comes in a test here, with memory:
 //
-// | status | `chain` | `distill` |
-// |---|---|---|
-// | Done | one_packet_leaves_at_tick_60 | distilling::two_stubs_are_walked_in |
-// | BadWords | words_that_are_no_order_are_refused | words_that_are_no_order_are_refused |
-// | BadTopology | | distilling::a_topology_is_refused_by_its_first_fault |
-// | BadTrace | a_cut_record_is_refused_and_nothing_is_written | |
-// | BadPlan(TooManyPipes) | | distilling::a_mesh_of_1001000_pipes_is_refused |
-// | ReadFault(Topology) | | distilling::a_failed_read_of_the_topology_is_named |
-// | ReadFault(Trace) | a_failed_read_is_named_by_its_role | |
-// | WriteFault(Out) | a_failed_write_leaves_a_front_of_the_output_trace | |
-// | WriteFault(Report) | a_failed_write_of_the_report_leaves_the_output_trace_whole | |
-// | WriteFault(Screen) | | distilling::a_failed_write_leaves_a_front_of_the_screen |
-// | TooLarge(Topology) | | distilling::a_topology_above_its_limit_is_too_large |
-// | TooLarge(Trace) | a_trace_above_its_limit_is_too_large | |
-// | BadCapture | pcapng::a_cut_block_is_refused_and_nothing_is_written | |
+// | status | `chain` | `distill`, in `distilling` | `assign`, in `assigning` |
+// |---|---|---|---|
+// | Done | one_packet_leaves_at_tick_60 | two_stubs_are_walked_in | two_stubs_are_dealt_to_two_cores |
+// | BadWords | words_that_are_no_order_are_refused | the same for all commands | the same for all commands |
+// | BadTopology | | a_topology_is_refused_by_its_first_fault | the same name |
+// | BadTrace | a_cut_record_is_refused_and_nothing_is_written | | |
+// | BadPlan(TooManyPipes) | | a_mesh_of_1001000_pipes_is_refused | the same name |
+// | ReadFault(Topology) | | a_failed_read_of_the_topology_is_named | the same name |
+// | ReadFault(Trace) | a_failed_read_is_named_by_its_role | | |
+// | WriteFault(Out) | a_failed_write_leaves_a_front_of_the_output_trace | | |
+// | WriteFault(Report) | a_failed_write_of_the_report_leaves_the_output_trace_whole | | |
+// | WriteFault(Screen) | | a_failed_write_leaves_a_front_of_the_screen | the same name |
+// | TooLarge(Topology) | | a_topology_above_its_limit_is_too_large | the same name |
+// | TooLarge(Trace) | a_trace_above_its_limit_is_too_large | | |
+// | BadCapture | pcapng::a_cut_block_is_refused_and_nothing_is_written | | |
 ghost use Rattle.std.specs.Prelude.{◌≡◌, ◌≤◌, false};
 ghost use Rattle.mn_edge.specs.declared.role.Role.{Role};
 ghost use Rattle.mn_edge.specs.MemoryHostView.{stream_of};
 
+mod assigning;
 mod bursts;
 mod distilling;
 mod pcapng;
@@ -375,6 +376,9 @@ fn words_that_are_no_order_are_refused(rt: HostRuntime) {
     let line = "distill --topology g --mode walk:0";
     let mode = Status::BadWords(WordsFault::Value(Opt::Mode));
     assert_stops(&rt, line, &ONE_PACKET, &[], 4_096, mode, 0);
+    let line = "assign --topology g --cores 17";
+    let cores = Status::BadWords(WordsFault::Value(Opt::Cores));
+    assert_stops(&rt, line, &ONE_PACKET, &[], 4_096, cores, 0);
 }
 
 #[test]

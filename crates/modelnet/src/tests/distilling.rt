@@ -16,7 +16,7 @@ use std::process::Abort;
 use topo::{Key, Many, TopoFault};
 
 /// Two stubs of two nodes each, joined by a slow link between routers.
-const TWO_STUBS: &str = "graph [
+pub const TWO_STUBS: &str = "graph [
   node [ id 0 address \"10.0.0.1\" ]
   node [ id 1 address \"10.0.0.2\" ]
   node [ id 2 ]
@@ -68,7 +68,7 @@ fn host(
 }
 
 /// Runs a command line on a topology, and compares how it ends and what stands on the screen.
-fn assert_prints(
+pub fn assert_prints(
     rt: &(impl Abort + AllocGlobal),
     line: &str,
     topology: &str,
@@ -120,7 +120,7 @@ fn edge_nodes(rt: &impl AllocGlobal, count: u32) -> Result<String, AllocError> {
 }
 
 /// One edge node, 1,000 routers next to it, and one further router behind them all.
-fn fan_of_routers(rt: &impl AllocGlobal) -> Result<String, AllocError> {
+pub fn fan_of_routers(rt: &impl AllocGlobal) -> Result<String, AllocError> {
     let start = "graph [ node [ id 0 address \"10.0.0.1\" ] node [ id 1001 ]";
     let mut text = String::from_str(rt.alloc(), start)?;
     for id in 1..1_001 {
@@ -165,57 +165,73 @@ fn a_mesh_of_1001000_pipes_is_refused(rt: HostRuntime) {
     assert_prints(&rt, line, fan.as_str(), status, "");
 }
 
-/// Runs `distill` over a host whose calls may fail, and compares how it ends and how much stands on the screen.
-fn assert_stops(
+/// Runs a command line on two stubs over a host whose calls may fail, and compares how it ends and how much of the whole text
+/// stands on the screen.
+pub fn assert_stops(
     rt: &(impl Abort + AllocGlobal),
+    line: &str,
+    whole: &str,
     fails: &[Fail],
     room: usize,
     status: Status,
     written: usize,
 ) {
-    let words = words_in(rt, "distill --topology g --mode walk:1");
+    let words = words_in(rt, line);
     let mut host = host(rt, TWO_STUBS, fails, 8, room);
     assert_eq!(rt; plain(rt.alloc(), &words, &mut host), status);
     let screen = host.written_bytes(Role::Screen);
     assert_eq!(rt; screen.len(), written);
-    assert!(rt; TWO_STUBS_WALKED_IN.as_bytes().starts_with(screen));
+    assert!(rt; whole.as_bytes().starts_with(screen));
 }
 
-#[test]
-fn a_failed_read_of_the_topology_is_named(rt: HostRuntime) {
+/// Each call on the topology fails in turn.
+pub fn assert_read_faults(rt: &(impl Abort + AllocGlobal), line: &str, whole: &str) {
     for op in [Op::Begin, Op::Read, Op::Finish] {
         let first = Fail {
             role: Role::Topology,
             op,
             k: 0,
         };
-        assert_stops(&rt, &[first], 4_096, Status::ReadFault(Role::Topology), 0);
+        let status = Status::ReadFault(Role::Topology);
+        assert_stops(rt, line, whole, &[first], 4_096, status, 0);
     }
 }
 
-#[test]
-fn a_failed_write_leaves_a_front_of_the_screen(rt: HostRuntime) {
+/// The second write of eight bytes to the screen fails, then one without room, then the finish.
+pub fn assert_write_faults(rt: &(impl Abort + AllocGlobal), line: &str, whole: &str) {
     let second = Fail {
         role: Role::Screen,
         op: Op::Write,
         k: 1,
     };
     let status = Status::WriteFault(Role::Screen);
-    assert_stops(&rt, &[second], 4_096, status, 8);
-    assert_stops(&rt, &[], 20, status, 20);
+    assert_stops(rt, line, whole, &[second], 4_096, status, 8);
+    assert_stops(rt, line, whole, &[], 20, status, 20);
     let last = Fail {
         role: Role::Screen,
         op: Op::Finish,
         k: 0,
     };
-    assert_stops(&rt, &[last], 4_096, status, TWO_STUBS_WALKED_IN.len());
+    assert_stops(rt, line, whole, &[last], 4_096, status, whole.len());
 }
 
-/// How `distill` ends on the empty topology of 9 bytes, where so many bytes of a topology are read at most.
-fn status_within(rt: &(impl Abort + AllocGlobal), limit: usize) -> Status
+const WALK_IN: &str = "distill --topology g --mode walk:1";
+
+#[test]
+fn a_failed_read_of_the_topology_is_named(rt: HostRuntime) {
+    assert_read_faults(&rt, WALK_IN, TWO_STUBS_WALKED_IN);
+}
+
+#[test]
+fn a_failed_write_leaves_a_front_of_the_screen(rt: HostRuntime) {
+    assert_write_faults(&rt, WALK_IN, TWO_STUBS_WALKED_IN);
+}
+
+/// How a command line ends on the empty topology of 9 bytes, where so many bytes of a topology are read at most.
+pub fn status_within(rt: &(impl Abort + AllocGlobal), line: &str, limit: usize) -> Status
     requires { limit ≤ TOPOLOGY_BYTES_MAX }
 {
-    let words = words_in(rt, "distill --topology g");
+    let words = words_in(rt, line);
     let mut host = host(rt, "graph [ ]", &[], 8, 4_096);
     let limits = ReadLimits {
         topology: limit,
@@ -226,6 +242,10 @@ fn status_within(rt: &(impl Abort + AllocGlobal), limit: usize) -> Status
 
 #[test]
 fn a_topology_above_its_limit_is_too_large(rt: HostRuntime) {
-    assert_eq!(rt; status_within(&rt, 9), Status::Done);
-    assert_eq!(rt; status_within(&rt, 8), Status::TooLarge(Role::Topology));
+    let line = "distill --topology g";
+    assert_eq!(rt; status_within(&rt, line, 9), Status::Done);
+    assert_eq!(rt;
+        status_within(&rt, line, 8),
+        Status::TooLarge(Role::Topology)
+    );
 }
