@@ -1,8 +1,8 @@
 #!/bin/bash
-# Refuses each allocation in turn, 1, 2, 3 .., until a run needs no more: of `chain` and `distill`, or of the tests of a crate.
+# Refuses each allocation in turn, 1, 2, 3 .., until a run needs no more: of `chain`, `distill` and `assign`, or of the tests of a crate.
 #
 # usage: bench/memory.sh                      `chain` on the stored trace and on 60 packets over 3 pipes, `distill` on a ring of 12
-#                                             nodes in three modes; some seconds
+#                                             nodes in three modes, `assign` to three cores; some seconds
 #        bench/memory.sh CRATE [LAST]         each test of that crate, up to its allocation LAST (1,000); some seconds to minutes
 #
 # The commands are the built program's (MODELNET names another than crates/modelnet/out/modelnet), and the tests are crates/CRATE/out/CRATE_tests,
@@ -70,8 +70,8 @@ sweep() {
     sort "$folder/ends" | uniq -c
 }
 
-# usage: pipes_allowed STATUS LINE: a refused run of `distill` may end so, and may have printed what it printed
-pipes_allowed() {
+# usage: screen_allowed STATUS LINE: a refused run of a command that prints may end so, and may have printed what it printed
+screen_allowed() {
     case "$1 $2" in
         "0 ") cmp -s "$folder/screen" "$folder/whole.screen" ;;
         "1 " | "1 modelnet: no memory" | "6 modelnet: cannot read topology") [ ! -s "$folder/screen" ] ;;
@@ -82,10 +82,11 @@ pipes_allowed() {
     esac
 }
 
-# usage: sweep_distill NAME MODE: refuses each allocation of `distill` in turn
-sweep_distill() {
-    local name=$1 number=0 status line
-    local words=(distill --topology "$folder/ring.gml" "--mode=$2")
+# usage: sweep_ring NAME COMMAND OPTION..: refuses each allocation of a command that prints what it makes of the ring in turn
+sweep_ring() {
+    local name=$1 command=$2 number=0 status line
+    shift 2
+    local words=("$command" --topology "$folder/ring.gml" "$@")
     "$binary" "${words[@]}" >"$folder/whole.screen"
     : >"$folder/ends"
     while true; do
@@ -95,7 +96,7 @@ sweep_distill() {
         [ -s "$folder/refused" ] || break
         line=$(cat "$folder/line")
         echo "status $status, ${line:-no line}" >>"$folder/ends"
-        if ! pipes_allowed "$status" "$line"; then
+        if ! screen_allowed "$status" "$line"; then
             echo "$name: allocation $number: status $status, '$line'" >&2
             wrong=1
         fi
@@ -196,8 +197,9 @@ for REFUSE_FROM in 0 1; do
     [ "$REFUSE_FROM" = 0 ] && how="one refused" || how="all refused from one on"
     sweep "one packet, $how" "$here/crates/modelnet/data/in.pcap" 8000000:5000:50:0
     sweep "60 packets, $how" "$folder/in.pcap" 8000000:50:8:0 100000000:300:50:100000 8000000:5000:3:0
-    sweep_distill "a ring walked in, $how" walk:1
-    sweep_distill "a ring end to end, $how" end
-    sweep_distill "a ring walked out, $how" walk:1:1
+    sweep_ring "a ring walked in, $how" distill --mode=walk:1
+    sweep_ring "a ring end to end, $how" distill --mode=end
+    sweep_ring "a ring walked out, $how" distill --mode=walk:1:1
+    sweep_ring "a ring on three cores, $how" assign --mode=walk:1 --cores=3
 done
 exit "$wrong"
