@@ -1,0 +1,11 @@
+pub mod Drawing
+pub mod Finishes
+pub mod InOrder
+pub mod NoEvents
+pub mod NoStandstill
+pub mod OneTurn
+pub mod Pushed
+pub mod Rounds
+pub mod Starts
+pub mod TurnSays
+pub mod Weights
