@@ -24,4 +24,3 @@ pub use one_core::Core;
 pub use stores::stock;
 pub use tally::Tally;
 pub use turn::{PortName, Turn};
-
