@@ -21,11 +21,7 @@ use std::alloc::Global;
 /// L is in ticks. There is one line for each core, in order: the pipes that it owns, the packets that entered there, the visits of
 /// its pipes, and the notes on arrivals and on fates that it sent to other cores. The outcome's counts are those of all cores, as
 /// `merge` gives them.
-pub fn print_cluster(
-    alloc: Global,
-    setup: &Setup,
-    outcome: &Outcome,
-) -> Result<Bytes, NoMemory>
+pub fn print_cluster(alloc: Global, setup: &Setup, outcome: &Outcome) -> Result<Bytes, NoMemory>
     requires { outcome.now.cores ≡ map (counts_at setup.now) (range_with_len 0 setup.now.cores) }
     ensures text { IfOk result (λ text. text ≡ cluster_text setup.now) }
 {
@@ -46,7 +42,10 @@ fn write_cores_line(
 ) -> Result<(), NoMemory>
     ensures { OnOk result (string_bytes text.new ≡ string_bytes text.old ++ cores_line cores lookahead windows) }
 {
-    writeln!(text, "cores {cores} lookahead {lookahead} windows {windows}")?;
+    writeln!(
+        text,
+        "cores {cores} lookahead {lookahead} windows {windows}"
+    )?;
     Ok(())
 }
 
@@ -71,6 +70,9 @@ fn write_core_line(text: &mut String, number: usize, counts: &CoreCounts) -> Res
         windows: _,
     } = *counts;
     write!(text, "core {number} pipes {pipes} entered {entered}")?;
-    writeln!(text, " visits {visits} arrivals {arrivals} settles {settles}")?;
+    writeln!(
+        text,
+        " visits {visits} arrivals {arrivals} settles {settles}"
+    )?;
     Ok(())
 }
