@@ -1,0 +1,14 @@
+pub mod FirstUses
+pub mod Routing
+pub mod AllAnswers
+pub mod Bindings
+pub mod BoundPackets
+pub mod PlanSetup
+pub mod Latencies
+pub mod FirstFaults
+pub mod Fits
+pub mod Searching
+pub mod LoopSteps
+pub mod OneAnswer
+pub mod WholePlan
+pub mod Arcs

@@ -1,0 +1,11 @@
+pub mod Answers
+pub mod Binding
+pub mod Faults
+pub mod Grounds
+pub mod Laws
+pub mod Options
+pub mod PlannedView
+pub mod Plans
+pub mod Router
+pub mod Searches
+pub mod Setups
