@@ -1,28 +1,30 @@
 #!/usr/bin/env python3
 """Compares `assign` with a plain program that searches all pipes in each turn, on random topologies of up to 12 nodes and 1 to 16 cores, and
-times it on 262,144 pipes and on 32,766 pipes at one node, with 16 cores.
+times the program on 262,144 pipes and on 32,766 pipes at one node, with 16 cores.
 
-usage: bench/assign.py [TOPOLOGIES]      1,000 topologies where none are given; needs `rt`
+usage: bench/assign.py [TOPOLOGIES]      1,000 topologies where none are given, 0 for the times alone; needs `rt`
 
 The topologies are made by the program below, which prints each with its pipes and their owners; what the owners should be is worked out here.
+The times are those of crates/modelnet/out/modelnet, or of MODELNET_BIN: of `distill` and of `assign`, which distils first.
 """
+import os
 import shutil
 import subprocess
 import sys
 import tempfile
+import time
 from pathlib import Path
 
 ROOT = Path(__file__).resolve().parent.parent
 BELOW = ("mn_base", "topo", "routes", "frontier", "walk_out", "distill", "changes", "ownership")
 
-HEAD = r"""#![tactic(auto)]
+RANDOM = r"""#![tactic(auto)]
 
 ghost use Rattle.std.specs.Prelude.{◌<◌};
 
 use distill::{Distilled, Mode, distill};
 use ownership::{assign, print_directory};
 use std::alloc::Global;
-USES
 use topo::{EdgeSpec, Node, Topology};
 
 const EDGE: EdgeSpec = EdgeSpec {
@@ -33,9 +35,7 @@ const EDGE: EdgeSpec = EdgeSpec {
     queue: 50,
     ppm: 0,
 };
-"""
 
-RANDOM = HEAD.replace("USES\n", "") + r"""
 fn next(state: &mut u64, below: u64) -> u64
     requires { 0 < below }
     ensures { result < below }
@@ -105,68 +105,6 @@ fn main(rt: HostRuntime) -> anyhow::Result<()> {
 }
 """
 
-LARGE = HEAD.replace("USES", "use std::time::Instant;").replace("ghost use Rattle.std.specs.Prelude.{◌<◌};\n\n", "").replace("{Distilled, Mode, distill}", "{Mode, distill}").replace("{assign, print_directory}", "assign") + r"""
-/// 512 nodes with addresses, from each of which a link leads to a node of a ring of 512, and the links of the ring.
-fn ring(alloc: Global) -> anyhow::Result<Option<Topology>> {
-    let mut nodes = Vec::new(alloc);
-    let mut edges = Vec::new(alloc);
-    for id in 0..1_024u32 {
-        nodes.push(Node { id: u64::from(id), address: (id < 512).then_some(id) })?;
-    }
-    for id in 0..512u64 {
-        edges.push(EdgeSpec { source: id, target: 512 + id, ..EDGE })?;
-        edges.push(EdgeSpec { source: 512 + id, target: 512 + (id + 1) % 512, ..EDGE })?;
-    }
-    if nodes.len() > 4_000 || edges.len() > 4_000 {
-        return Ok(None);
-    }
-    Ok(Topology::new(alloc, nodes, edges, true).ok())
-}
-
-/// 16,383 links between node 0 and 511 others.
-fn hub(alloc: Global) -> anyhow::Result<Option<Topology>> {
-    let mut nodes = Vec::new(alloc);
-    let mut edges = Vec::new(alloc);
-    for id in 0..512u32 {
-        nodes.push(Node { id: u64::from(id), address: Some(id) })?;
-    }
-    for number in 0..16_383u64 {
-        edges.push(EdgeSpec { source: 0, target: 1 + number % 511, ..EDGE })?;
-    }
-    if nodes.len() > 4_000 || edges.len() > 16_384 {
-        return Ok(None);
-    }
-    Ok(Topology::new(alloc, nodes, edges, false).ok())
-}
-
-fn time_assign(rt: &HostRuntime, alloc: Global, topology: Option<Topology>, is_ring: bool) -> anyhow::Result<()> {
-    let Some(topology) = topology else {
-        anyhow::bail!("no topology");
-    };
-    let mode = if is_ring { Mode::Walk(1) } else { Mode::Hop };
-    let Ok(distilled) = distill(alloc, &topology, mode, 100_000) else {
-        anyhow::bail!("refused");
-    };
-    let begin = Instant::now(rt)?;
-    let Ok(directory) = assign(alloc, &distilled, 16) else {
-        anyhow::bail!("no memory");
-    };
-    let spent = begin.elapsed(rt)?.as_millis();
-    let _ = directory;
-    println!(rt; "{} pipes on 16 cores: {spent} ms", distilled.pipes().len())?;
-    Ok(())
-}
-
-fn main(rt: HostRuntime) -> anyhow::Result<()> {
-    let alloc = rt.alloc();
-    let ring = ring(alloc)?;
-    time_assign(&rt, alloc, ring, true)?;
-    let hub = hub(alloc)?;
-    time_assign(&rt, alloc, hub, false)
-}
-"""
-
-
 def run(program: str) -> str:
     """What the program prints, which `rt try` runs compiled, without a proof."""
     with tempfile.TemporaryDirectory() as folder:
@@ -223,6 +161,50 @@ def compare(topologies: int) -> None:
     print(f"{seen} topologies, owners as expected")
 
 
+# ---- times
+
+EDGE = "bandwidth 10000000 latency 100"
+
+
+def gml(addresses, edges, directed) -> str:
+    """A topology whose nodes have these addresses (or none), with edges between nodes by number."""
+    lines = ["graph [", f"  directed {int(directed)}"]
+    for number, address in enumerate(addresses):
+        named = "" if address is None else f' address "10.0.{address // 256}.{address % 256}"'
+        lines.append(f"  node [ id {number}{named} ]")
+    for source, target in edges:
+        lines.append(f"  edge [ source {source} target {target} {EDGE} ]")
+    return "\n".join(lines + ["]"]) + "\n"
+
+
+def ring() -> str:
+    """512 nodes with addresses, from each of which a link leads to a node of a ring of 512, and the links of the ring."""
+    edges = [(n, 512 + n) for n in range(512)] + [(512 + n, 512 + (n + 1) % 512) for n in range(512)]
+    return gml([n if n < 512 else None for n in range(1_024)], edges, True)
+
+
+def hub() -> str:
+    """16,383 links between node 0 and 511 others."""
+    return gml(list(range(512)), [(0, 1 + n % 511) for n in range(16_383)], False)
+
+
+def times() -> None:
+    program = os.environ.get("MODELNET_BIN", str(ROOT / "crates/modelnet/out/modelnet"))
+    for text, mode in ((ring(), "walk:1"), (hub(), "hop")):
+        with tempfile.NamedTemporaryFile("w", suffix=".gml") as file:
+            file.write(text)
+            file.flush()
+            spent = {}
+            for command in (["distill"], ["assign", "--cores", "16"]):
+                begin = time.monotonic()
+                done = subprocess.run([program, *command, "--topology", file.name, "--mode", mode], capture_output=True, check=True)
+                spent[command[0]] = time.monotonic() - begin
+            pipes = done.stdout.count(b"\npipe ")
+            print(f"{pipes} pipes on 16 cores: assign {spent['assign']:.2f} s, distill alone {spent['distill']:.2f} s")
+
+
 if __name__ == "__main__":
-    compare(int(sys.argv[1]) if len(sys.argv) > 1 else 1_000)
-    print(run(LARGE), end="")
+    topologies = int(sys.argv[1]) if len(sys.argv) > 1 else 1_000
+    if topologies > 0:
+        compare(topologies)
+    times()
