@@ -2,4 +2,5 @@ pub mod ColonParts
 pub mod Finding
 pub mod Names
 pub mod PipeLists
+pub mod Runs
 pub mod Taking

@@ -1,6 +1,6 @@
 -- The table of the options that may be left out: of each its name, its value without it, and what its text may say. A word is the
 -- list of its bytes.
-use Rattle.std.specs.Prelude.{ℕ, List, [], Option, Some, None, Result, ok_or, codes}
+use Rattle.std.specs.Prelude.{ℕ, Bool, false, List, [], Option, Some, None, Result, ok_or, codes}
 use Rattle.mn_base.specs.declared.limits.TheConstants.{TICK_NS_DEFAULT}
 use Rattle.mn_base.specs.Decimal.{decimal_of}
 use Rattle.distill.specs.declared.modes.Mode.{Mode}
@@ -13,7 +13,7 @@ use Rattle.mn_words.specs.declared.opt.WordsFault.{WordsFault}
 use Rattle.mn_words.specs.declared.opt.WordsFault.TheVariants.{Value}
 use Rattle.mn_words.specs.Form.{value_of}
 use Rattle.mn_words.specs.Items.{Item}
-use Rattle.mn_words.specs.Values.{tick_of, cores_of, mode_of, loss_of}
+use Rattle.mn_words.specs.Values.{tick_of, cores_of, turns_of, yes_or_no, mode_of, loss_of}
 
 -- what the text of an option says, and a default where the option is left out
 abbrev pub read_or : {A : Type 0} → A → (List ℕ → Option A) → Option (List ℕ) → Option A
@@ -35,6 +35,15 @@ seed_in items = option_or opt.Seed (codes "--seed") 0 decimal_of items
 
 abbrev pub tick_in : List Item → Result ℕ WordsFault
 tick_in items = option_or opt.TickNs (codes "--tick-ns") TICK_NS_DEFAULT tick_of items
+
+abbrev pub cluster_report_in : List Item → Result Bool WordsFault
+cluster_report_in items = option_or opt.ClusterReport (codes "--cluster-report") false yes_or_no items
+
+abbrev pub order_in : List Item → Result ℕ WordsFault
+order_in items = option_or opt.Order (codes "--order") 0 decimal_of items
+
+abbrev pub turns_in : List Item → Result ℕ WordsFault
+turns_in items = option_or opt.Turns (codes "--turns") 0 turns_of items
 
 abbrev pub loss_in : List Item → Result LossBy WordsFault
 loss_in items = option_or opt.Loss (codes "--loss") Packet loss_of items

@@ -1,6 +1,6 @@
 -- What a command line asks for.
-use Rattle.std.specs.Prelude.{ℕ, ◌≤◌, List, length, All}
-use Rattle.mn_base.specs.declared.limits.TheConstants.{CHAIN_PIPES_MAX, CORES_MAX}
+use Rattle.std.specs.Prelude.{ℕ, ◌≤◌, Bool, List, Option, length, All}
+use Rattle.mn_base.specs.declared.limits.TheConstants.{CHAIN_PIPES_MAX, CORES_MAX, TURNS_MAX}
 use Rattle.mn_base.specs.Ranges.{AreInRange, IsTickLength}
 use Rattle.distill.specs.declared.modes.Mode.{Mode}
 use Rattle.distill.specs.Modes.{IsMode}
@@ -29,6 +29,22 @@ pub record AssignView : Type 0 where
   pub mode : Mode
   pub cores : ℕ
 
+-- what contracts see of a `RunOrder`
+pub record RunView : Type 0 where
+  pub topology : List ℕ
+  pub trace : List ℕ
+  pub out : List ℕ
+  pub report : List ℕ
+  pub mode : Mode
+  pub cores : ℕ
+  pub seed : ℕ
+  pub tick_ns : ℕ
+  pub directory : Option (List ℕ)
+  pub cluster_report : Bool
+  pub order : ℕ
+  pub turns : ℕ
+  pub loss : LossBy
+
 -- a number of cores is from 1 to `CORES_MAX`
 abbrev pub IsCoreCount : ℕ → Type 0
 IsCoreCount cores = (1 ≤ cores) × (cores ≤ CORES_MAX)
@@ -53,3 +69,10 @@ pub record IsDistillOrder (order : DistillView) : Type 0 where
 pub record IsAssignOrder (order : AssignView) : Type 0 where
   pub mode : IsMode order.mode
   pub cores : IsCoreCount order.cores
+
+-- an order within the limits of `rehearse`
+pub record IsRunOrder (order : RunView) : Type 0 where
+  pub mode : IsMode order.mode
+  pub cores : IsCoreCount order.cores
+  pub tick : IsTickLength order.tick_ns
+  pub turns : order.turns ≤ TURNS_MAX

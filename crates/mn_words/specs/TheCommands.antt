@@ -4,15 +4,15 @@ use Rattle.std.specs.Prelude.{ℕ, true, false, List, [], ◌∷◌, Option, Som
 use Rattle.mn_words.specs.declared.command.Command.{Command}
 use Rattle.mn_words.specs.declared.command.Command.TheVariants as command
 use Rattle.mn_words.specs.declared.order.Order.{Order}
-use Rattle.mn_words.specs.declared.order.Order.TheVariants.{Chain, Distill, Assign}
+use Rattle.mn_words.specs.declared.order.Order.TheVariants.{Chain, Distill, Assign, Rehearse}
 use Rattle.mn_words.specs.declared.order.PipeSpec.{PipeSpec}
 use Rattle.mn_words.specs.declared.opt.Opt.TheVariants.{Pipe}
 use Rattle.mn_words.specs.declared.opt.WordsFault.{WordsFault}
 use Rattle.mn_words.specs.declared.opt.WordsFault.TheVariants.{Value}
-use Rattle.mn_words.specs.Form.{Form, bare_words}
+use Rattle.mn_words.specs.Form.{Form, value_of, bare_words}
 use Rattle.mn_words.specs.Items.{Item}
-use Rattle.mn_words.specs.Options.{mode_in, cores_in, seed_in, tick_in, loss_in, text_in}
-use Rattle.mn_words.specs.Order.{ChainView, DistillView, AssignView}
+use Rattle.mn_words.specs.Options.{mode_in, cores_in, seed_in, tick_in, cluster_report_in, order_in, turns_in, loss_in, text_in}
+use Rattle.mn_words.specs.Order.{ChainView, DistillView, AssignView, RunView}
 use Rattle.mn_words.specs.Values.{chain_pipes}
 
 infixl 10 ◌>>=◌
@@ -26,6 +26,7 @@ command_of word =
     if bytes_eq word (codes "chain") then Some command.Chain else
     if bytes_eq word (codes "distill") then Some command.Distill else
     if bytes_eq word (codes "assign") then Some command.Assign else
+    if bytes_eq word (codes "rehearse") then Some command.Rehearse else
     None
 
 -- a row for each command: the options that are required, those that may stand, too, and whether there are PIPEs
@@ -43,6 +44,13 @@ form_of command.Distill = record {
 form_of command.Assign = record {
   needs = codes "--topology" ∷ [];
   may_have = codes "--mode" ∷ codes "--cores" ∷ [];
+  takes_pipes = false;
+}
+form_of command.Rehearse = record {
+  needs = codes "--topology" ∷ codes "--trace" ∷ codes "--out" ∷ codes "--report" ∷ [];
+  may_have =
+      codes "--mode" ∷ codes "--cores" ∷ codes "--seed" ∷ codes "--tick-ns" ∷ codes "--directory" ∷ codes "--cluster-report"
+      ∷ codes "--order" ∷ codes "--turns" ∷ codes "--loss" ∷ [];
   takes_pipes = false;
 }
 
@@ -81,6 +89,33 @@ assign_of items = do
   cores ← cores_in items
   Ok (record { topology = text_in (codes "--topology") items; mode = mode; cores = cores })
 
+-- the same of the items behind `rehearse`
+unfoldable pub run_of : List Item → Result RunView WordsFault
+run_of items = do
+  mode ← mode_in items
+  cores ← cores_in items
+  seed ← seed_in items
+  tick_ns ← tick_in items
+  cluster_report ← cluster_report_in items
+  order ← order_in items
+  turns ← turns_in items
+  loss ← loss_in items
+  Ok (record {
+    topology = text_in (codes "--topology") items;
+    trace = text_in (codes "--trace") items;
+    out = text_in (codes "--out") items;
+    report = text_in (codes "--report") items;
+    mode = mode;
+    cores = cores;
+    seed = seed;
+    tick_ns = tick_ns;
+    directory = value_of (codes "--directory") items;
+    cluster_report = cluster_report;
+    order = order;
+    turns = turns;
+    loss = loss;
+  })
+
 -- an arm for each command
 unfoldable pub order_of : Command → List Item → Result Order WordsFault
 order_of command.Chain items = do
@@ -92,3 +127,6 @@ order_of command.Distill items = do
 order_of command.Assign items = do
   order ← assign_of items
   Ok (Assign order)
+order_of command.Rehearse items = do
+  order ← run_of items
+  Ok (Rehearse order)

@@ -9,6 +9,7 @@ pub enum Command {
     Chain,
     Distill,
     Assign,
+    Rehearse,
 }
 
 /// The command of a word.
@@ -22,6 +23,8 @@ pub fn command_of(word: &str) -> Option<Command>
         Some(Command::Distill)
     } else if word == "assign" {
         Some(Command::Assign)
+    } else if word == "rehearse" {
+        Some(Command::Rehearse)
     } else {
         None
     }
@@ -46,6 +49,21 @@ pub fn form_of(command: Command) -> Form
         Command::Assign => Form {
             needs: &["--topology"],
             may_have: &["--mode", "--cores"],
+            takes_pipes: false,
+        },
+        Command::Rehearse => Form {
+            needs: &["--topology", "--trace", "--out", "--report"],
+            may_have: &[
+                "--mode",
+                "--cores",
+                "--seed",
+                "--tick-ns",
+                "--directory",
+                "--cluster-report",
+                "--order",
+                "--turns",
+                "--loss",
+            ],
             takes_pipes: false,
         },
     }

@@ -16,7 +16,7 @@ mod values;
 mod words;
 
 pub use opt::{Opt, WordsFault};
-pub use order::{AssignOrder, ChainOrder, DistillOrder, FileName, Order, PipeSpec};
+pub use order::{AssignOrder, ChainOrder, DistillOrder, FileName, Order, PipeSpec, RunOrder};
 pub use words::read_words;
 
 #[cfg(test)]

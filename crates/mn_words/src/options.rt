@@ -1,18 +1,20 @@
 ghost use Rattle.std.specs.Prelude.{◌≡◌, IfOk};
+ghost use Rattle.std.specs.Prelude.{◌≤◌};
 ghost use Rattle.mn_base.specs.Ranges.{IsTickLength};
 ghost use Rattle.distill.specs.Modes.{IsMode};
+ghost use Rattle.mn_words.specs.Form.{value_of};
 ghost use Rattle.mn_words.specs.Items.{items_of};
-ghost use Rattle.mn_words.specs.Options.{mode_in, cores_in, seed_in, tick_in, loss_in, text_in};
+ghost use Rattle.mn_words.specs.Options.{mode_in, cores_in, seed_in, tick_in, cluster_report_in, order_in, turns_in, loss_in, text_in};
 ghost use Rattle.mn_words.specs.Order.{IsCoreCount};
 
 use crate::form::value_of;
 use crate::opt::{Opt, WordsFault};
 use crate::order::FileName;
 use crate::rest::Rest;
-use crate::values::{cores_of, loss_of, mode_of, tick_of};
+use crate::values::{cores_of, loss_of, mode_of, tick_of, turns_of, yes_or_no};
 use distill::Mode;
 use journal::LossBy;
-use mn_base::limits::TICK_NS_DEFAULT;
+use mn_base::limits::{TICK_NS_DEFAULT, TURNS_MAX};
 use mn_base::{NoMemory, read_u64};
 use std::alloc::Global;
 
@@ -59,6 +61,37 @@ pub fn tick_in(words: Rest) -> Result<u64, WordsFault>
     }
 }
 
+/// `--cluster-report`: whether the cluster report is written, and not without it.
+pub fn cluster_report_in(words: Rest) -> Result<bool, WordsFault>
+    ensures { result ≡ cluster_report_in (items_of words.entry) }
+{
+    match value_of(words, "--cluster-report") {
+        None => Ok(false),
+        Some(text) => yes_or_no(text).ok_or(WordsFault::Value(Opt::ClusterReport)),
+    }
+}
+
+/// `--order`: the number of an order of turns, and 0 without it.
+pub fn order_in(words: Rest) -> Result<u64, WordsFault>
+    ensures { result ≡ order_in (items_of words.entry) }
+{
+    match value_of(words, "--order") {
+        None => Ok(0),
+        Some(text) => read_u64(text.as_bytes()).ok_or(WordsFault::Value(Opt::Order)),
+    }
+}
+
+/// `--turns`: how many turns are taken in that order, and none without it.
+pub fn turns_in(words: Rest) -> Result<u32, WordsFault>
+    ensures value { result ≡ turns_in (items_of words.entry) }
+    ensures range { IfOk result (λ turns. turns ≤ TURNS_MAX) }
+{
+    match value_of(words, "--turns") {
+        None => Ok(0),
+        Some(text) => turns_of(text).ok_or(WordsFault::Value(Opt::Turns)),
+    }
+}
+
 /// `--loss`: how loss words are numbered, and by the packet without it.
 pub fn loss_in(words: Rest) -> Result<LossBy, WordsFault>
     ensures { result ≡ loss_in (items_of words.entry) }
@@ -76,5 +109,15 @@ pub fn file_in(alloc: Global, words: Rest, name: &str) -> Result<FileName, NoMem
     match value_of(words, name) {
         Some(text) => FileName::copy(alloc, text),
         None => FileName::copy(alloc, ""),
+    }
+}
+
+/// The file that an option names, where it stands.
+pub fn file_if_named(alloc: Global, words: Rest, name: &str) -> Result<Option<FileName>, NoMemory>
+    ensures { IfOk result (λ file. file ≡ value_of name.now (items_of words.entry)) }
+{
+    match value_of(words, name) {
+        Some(text) => Ok(Some(FileName::copy(alloc, text)?)),
+        None => Ok(None),
     }
 }

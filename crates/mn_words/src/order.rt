@@ -130,6 +130,59 @@ impl Model for AssignOrder {
     } };
 }
 
+/// What `rehearse` is asked for.
+#[derive(Drop)]
+pub struct RunOrder {
+    /// The topology that is read.
+    pub topology: FileName,
+    /// The trace that is read.
+    pub trace: FileName,
+    /// The trace that is written.
+    pub out: FileName,
+    /// The report that is written.
+    pub report: FileName,
+    /// How much of the topology is kept.
+    pub mode: Mode,
+    /// How many cores run.
+    pub cores: u32,
+    /// The seed of the loss words.
+    pub seed: u64,
+    /// The tick length, in ns.
+    pub tick_ns: u64,
+    /// The directory that is read, which says which core owns each pipe.
+    pub directory: Option<FileName>,
+    /// Whether the cluster report is written.
+    pub cluster_report: bool,
+    /// The number of the order in which the cores take their first turns.
+    pub order: u64,
+    /// How many turns are taken in that order.
+    pub turns: u32,
+    /// How loss words are numbered.
+    pub loss: LossBy,
+}
+
+impl Model for RunOrder {
+    ghost use Rattle.mn_words.specs.Order.{RunView};
+
+    ghost Value = { RunView };
+
+    ghost view = { λ o. record {
+      topology = o.topology;
+      trace = o.trace;
+      out = o.out;
+      report = o.report;
+      mode = o.mode;
+      cores = o.cores;
+      seed = o.seed;
+      tick_ns = o.tick_ns;
+      directory = o.directory;
+      cluster_report = o.cluster_report;
+      order = o.order;
+      turns = o.turns;
+      loss = o.loss;
+    } };
+}
+
 /// What a command line asks for.
 #[derive(Drop)]
 pub enum Order {
@@ -139,4 +192,6 @@ pub enum Order {
     Distill(DistillOrder),
     /// Prints which core owns each pipe of a distilled topology.
     Assign(AssignOrder),
+    /// Replays a trace over a distilled topology, all cores on one thread.
+    Rehearse(RunOrder),
 }

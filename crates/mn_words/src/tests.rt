@@ -1,6 +1,6 @@
 //! Lines of words, with what comes of each by the rules.
 use crate::opt::{Opt, WordsFault};
-use crate::order::{AssignOrder, ChainOrder, DistillOrder, Order, PipeSpec};
+use crate::order::{AssignOrder, ChainOrder, DistillOrder, Order, PipeSpec, RunOrder};
 use crate::words::read_words;
 use distill::Mode;
 use journal::LossBy;
@@ -54,13 +54,20 @@ fn assign_order(rt: &(impl Abort + AllocGlobal), line: &str) -> AssignOrder {
     }
 }
 
+fn run_order(rt: &(impl Abort + AllocGlobal), line: &str) -> RunOrder {
+    match order_of(rt, line) {
+        Order::Rehearse(order) => order,
+        _ => panic!(rt; "no order to rehearse: {line}"),
+    }
+}
+
 #[test]
 fn no_words_and_words_that_are_no_command(rt: HostRuntime) -> Result<(), Fail> {
     let none = read_words(rt.alloc(), &[]).err();
     assert_eq!(rt; none, Some(Refusal::Fault(WordsFault::Command)));
     let lines = "\
 emulate
-rehearse --topology t
+workload --number 7
 --trace t
 --help
 distil --topology t
@@ -106,7 +113,16 @@ assign
 assign --cores 2
 assign --topology t --cores
 assign --topology t --tick-ns 1000
-assign --topology t 1000:0:1:0";
+assign --topology t 1000:0:1:0
+rehearse
+rehearse --topology g --trace t --out o
+rehearse --topology g --trace t --report r
+rehearse --topology g --out o --report r
+rehearse --trace t --out o --report r
+rehearse --topology g --trace t --out o --report r 1000:0:1:0
+rehearse --topology g --trace t --out o --report r --directory
+rehearse --topology g --trace t --out o --report r --cluster-report
+rehearse --topology g --trace t --out o --report r --number 7";
     assert_faults(&rt, lines, WordsFault::Form);
     Ok(())
 }
@@ -160,7 +176,10 @@ chain --trace t --out o --report r 1000:0:1:0 --loss packet --loss packet
 distill --topology t --topology=t
 distill --mode hop --topology t --mode hop
 distill --tick-ns=1000 --tick-ns=1000 --topology t
-assign --cores 2 --topology t --cores=2";
+assign --cores 2 --topology t --cores=2
+rehearse --topology g --trace t --out o --report r --seed 1 --seed 1
+rehearse --topology g --directory d --trace t --directory= --out o --report r
+rehearse --topology g --trace t --out o --report r --order 1 --turns 1 --order 2";
     assert_faults(&rt, lines, WordsFault::Form);
     Ok(())
 }
@@ -247,10 +266,43 @@ fn a_wrong_number_of_cores(rt: HostRuntime) -> Result<(), Fail> {
 assign --topology t --cores 17
 assign --topology t --cores=17
 assign --topology t --cores 0
-assign --cores --mode --topology t";
+assign --cores --mode --topology t
+rehearse --topology g --trace t --out o --report r --cores 17
+rehearse --topology g --trace t --out o --report r --cores=17";
     assert_faults(&rt, cores, WordsFault::Value(Opt::Cores));
     let mode = "assign --cores 17 --topology t --mode walk:0";
     assert_faults(&rt, mode, WordsFault::Value(Opt::Mode));
+    Ok(())
+}
+
+/// Each line mends the first wrong value of the one before it.
+#[test]
+fn the_first_wrong_value_of_a_rehearsal(rt: HostRuntime) -> Result<(), Fail> {
+    let lines = "\
+rehearse --loss x --turns 1000001 --order x --cluster-report maybe --tick-ns 999 --seed x --cores 0 --mode x
+rehearse --loss x --turns 1000001 --order x --cluster-report maybe --tick-ns 999 --seed x --cores 0
+rehearse --loss x --turns 1000001 --order x --cluster-report maybe --tick-ns 999 --seed x
+rehearse --loss x --turns 1000001 --order x --cluster-report maybe --tick-ns 999
+rehearse --loss x --turns 1000001 --order x --cluster-report Yes
+rehearse --loss x --turns 1000001 --order 18446744073709551616
+rehearse --loss x --turns 1000001
+rehearse --loss x";
+    let opts = [
+        Opt::Mode,
+        Opt::Cores,
+        Opt::Seed,
+        Opt::TickNs,
+        Opt::ClusterReport,
+        Opt::Order,
+        Opt::Turns,
+        Opt::Loss,
+    ];
+    for (line, opt) in lines.lines().zip(opts) {
+        let whole = format!(in rt.alloc();
+            "{line} --topology g --trace t --out o --report r"
+        ).expect(&rt, "memory");
+        assert_faults(&rt, whole.as_str(), WordsFault::Value(opt));
+    }
     Ok(())
 }
 
@@ -264,6 +316,44 @@ fn what_is_to_be_assigned(rt: HostRuntime) -> Result<(), Fail> {
     assert_eq!(rt; order.topology.as_str(), "--cores=17");
     assert_eq!(rt; order.mode, Mode::Walk(1));
     assert_eq!(rt; order.cores, 16);
+    Ok(())
+}
+
+#[test]
+fn what_is_to_be_rehearsed(rt: HostRuntime) -> Result<(), Fail> {
+    let order = run_order(&rt, "rehearse --report r --out o --trace t --topology g");
+    assert_eq!(rt; order.topology.as_str(), "g");
+    assert_eq!(rt; order.trace.as_str(), "t");
+    assert_eq!(rt; order.out.as_str(), "o");
+    assert_eq!(rt; order.report.as_str(), "r");
+    assert_eq!(rt; order.mode, Mode::Hop);
+    assert_eq!(rt; order.cores, 1);
+    assert_eq!(rt; order.seed, 0);
+    assert_eq!(rt; order.tick_ns, 100_000);
+    assert!(rt; order.directory.is_none());
+    assert!(rt; !order.cluster_report);
+    assert_eq!(rt; order.order, 0);
+    assert_eq!(rt; order.turns, 0);
+    assert_eq!(rt; order.loss, LossBy::Packet);
+    Ok(())
+}
+
+#[test]
+fn a_rehearsal_with_all_options(rt: HostRuntime) -> Result<(), Fail> {
+    let line =
+        "rehearse --loss arrival --turns=1000000 --order 18446744073709551615 --cluster-report=yes --directory d \
+        --tick-ns 1000 --seed=7 --cores 3 --mode end --report r --out o --trace t --topology g";
+    let order = run_order(&rt, line);
+    assert_eq!(rt; order.mode, Mode::End);
+    assert_eq!(rt; order.cores, 3);
+    assert_eq!(rt; order.seed, 7);
+    assert_eq!(rt; order.tick_ns, 1_000);
+    let directory = order.directory.expect(&rt, "a directory");
+    assert_eq!(rt; directory.as_str(), "d");
+    assert!(rt; order.cluster_report);
+    assert_eq!(rt; order.order, u64::MAX);
+    assert_eq!(rt; order.turns, 1_000_000);
+    assert_eq!(rt; order.loss, LossBy::Arrival);
     Ok(())
 }
 

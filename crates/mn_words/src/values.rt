@@ -1,7 +1,7 @@
 ghost use Rattle.std.specs.Prelude.{◌≡◌, ◌≤◌, [], ◌∷◌, IfSome, MatchOption, None};
 ghost use Rattle.mn_base.specs.Ranges.{IsTickLength};
 ghost use Rattle.distill.specs.Modes.{IsFrontierCount, IsMode};
-ghost use Rattle.mn_words.specs.Values.{number_within, colon_parts, pipe_spec_of, tick_of, cores_of, loss_of, mode_of, walk_of, walk_numbers, frontier_count};
+ghost use Rattle.mn_words.specs.Values.{number_within, colon_parts, pipe_spec_of, tick_of, cores_of, turns_of, yes_or_no, loss_of, mode_of, walk_of, walk_numbers, frontier_count};
 ghost use Rattle.mn_words.specs.Order.{IsCoreCount, IsPipeSpec};
 
 use crate::order::PipeSpec;
@@ -9,7 +9,7 @@ use distill::Mode;
 use journal::LossBy;
 use mn_base::limits::{
     BPS_MAX, BPS_MIN, CORES_MAX, FRONTIERS_MAX, LINK_LATENCY_US_MAX, LOSS_PPM_MAX, QUEUE_MAX,
-    QUEUE_MIN, TICK_NS_MAX, TICK_NS_MIN,
+    QUEUE_MIN, TICK_NS_MAX, TICK_NS_MIN, TURNS_MAX,
 };
 use mn_base::read_u64;
 
@@ -43,6 +43,29 @@ pub fn cores_of(text: &str) -> Option<u32>
 {
     let count = number_within(text, 1, u64::from(CORES_MAX))?;
     Some(count as u32)
+}
+
+/// How many turns a text names: at most 1,000,000.
+pub fn turns_of(text: &str) -> Option<u32>
+    ensures value { result ≡ turns_of text.now }
+    ensures range { IfSome result (λ turns. turns ≤ TURNS_MAX) }
+{
+    let count = number_within(text, 0, u64::from(TURNS_MAX))?;
+    Some(count as u32)
+}
+
+/// `yes` or `no`.
+#[tactic(auto, unfolding(crate::specs::Values::yes_or_no))]
+pub fn yes_or_no(text: &str) -> Option<bool>
+    ensures { result ≡ yes_or_no text.now }
+{
+    if text == "yes" {
+        Some(true)
+    } else if text == "no" {
+        Some(false)
+    } else {
+        None
+    }
 }
 
 /// `packet` or `arrival`.

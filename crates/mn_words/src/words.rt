@@ -2,14 +2,17 @@ ghost use Rattle.std.specs.Prelude.{◌≡◌, ◌≤◌, length, Some, Ok, Err,
 ghost use Rattle.mn_base.specs.Refused.{IfFault};
 ghost use Rattle.mn_words.specs.Form.{bare_words, has_form};
 ghost use Rattle.mn_words.specs.Items.{items_of};
-ghost use Rattle.mn_words.specs.Order.{IsAssignOrder, IsChainOrder, IsDistillOrder};
-ghost use Rattle.mn_words.specs.TheCommands.{form_of, order_of, chain_of, distill_of, assign_of};
+ghost use Rattle.mn_words.specs.Order.{IsAssignOrder, IsChainOrder, IsDistillOrder, IsRunOrder};
+ghost use Rattle.mn_words.specs.TheCommands.{form_of, order_of, chain_of, distill_of, assign_of, run_of};
 ghost use Rattle.mn_words.specs.Words.{ordered, texts, IsInRange};
 
 use crate::command::{Command, command_of, form_of};
 use crate::opt::WordsFault;
-use crate::options::{cores_in, file_in, loss_in, mode_in, seed_in, tick_in};
-use crate::order::{AssignOrder, ChainOrder, DistillOrder, Order};
+use crate::options::{
+    cluster_report_in, cores_in, file_if_named, file_in, loss_in, mode_in, order_in, seed_in,
+    tick_in, turns_in,
+};
+use crate::order::{AssignOrder, ChainOrder, DistillOrder, Order, RunOrder};
 use crate::pipes::chain_pipes;
 use crate::rest::Rest;
 use mn_base::Refusal;
@@ -21,11 +24,14 @@ use std::alloc::Global;
 ///   16 pipes.
 /// - `distill --topology F --mode M (hop) --tick-ns N (100000)` prints the pipes of a distilled topology.
 /// - `assign --topology F --mode M (hop) --cores N (1)` prints which core owns each of these pipes.
+/// - `rehearse --topology F --trace F --out F --report F --mode M (hop) --cores N (1) --seed N (0) --tick-ns N (100000)
+///   --directory F --cluster-report B (no) --order N (0) --turns N (0) --loss L (packet)` replays a trace over a distilled
+///   topology.
 ///
-/// What stands in brackets holds where the option is left out; the others are required. Options and PIPEs
+/// What stands in brackets holds where the option is left out; the others are required, but for `--directory`. Options and PIPEs
 /// may be mixed. An option is `--name value`, whatever the value's word is, or `--name=value`, parted at the
 /// first `=`. A PIPE is `BPS:LATENCY_US:QUEUE:PPM`, M is `hop`, `end`, `walk:W` or `walk:W:O` with numbers from 1 to 4,096, L is
-/// `packet` or `arrival`, and there are 1 to 16 cores.
+/// `packet` or `arrival`, B is `yes` or `no`, there are 1 to 16 cores and at most 1,000,000 turns.
 ///
 /// # Errors
 ///
@@ -64,6 +70,7 @@ fn order_of(alloc: Global, command: Command, words: Rest) -> Result<Order, Refus
         Command::Chain => Ok(Order::Chain(chain_of(alloc, words)?)),
         Command::Distill => Ok(Order::Distill(distill_of(alloc, words)?)),
         Command::Assign => Ok(Order::Assign(assign_of(alloc, words)?)),
+        Command::Rehearse => Ok(Order::Rehearse(run_of(alloc, words)?)),
     }
 }
 
@@ -121,5 +128,41 @@ fn assign_of(alloc: Global, words: Rest) -> Result<AssignOrder, Refusal<WordsFau
         topology,
         mode,
         cores,
+    })
+}
+
+#[tactic(auto, unfolding(crate::specs::TheCommands::run_of))]
+fn run_of(alloc: Global, words: Rest) -> Result<RunOrder, Refusal<WordsFault>>
+    ensures order { IfOk result (λ order. run_of (items_of words.entry) ≡ Ok order) }
+    ensures ranges { IfOk result IsRunOrder }
+    ensures fault { IfErr result (λ e. IfFault e (λ fault. run_of (items_of words.entry) ≡ Err fault)) }
+{
+    let mode = mode_in(words.again())?;
+    let cores = cores_in(words.again())?;
+    let seed = seed_in(words.again())?;
+    let tick_ns = tick_in(words.again())?;
+    let cluster_report = cluster_report_in(words.again())?;
+    let order = order_in(words.again())?;
+    let turns = turns_in(words.again())?;
+    let loss = loss_in(words.again())?;
+    let topology = file_in(alloc, words.again(), "--topology")?;
+    let trace = file_in(alloc, words.again(), "--trace")?;
+    let out = file_in(alloc, words.again(), "--out")?;
+    let report = file_in(alloc, words.again(), "--report")?;
+    let directory = file_if_named(alloc, words, "--directory")?;
+    Ok(RunOrder {
+        topology,
+        trace,
+        out,
+        report,
+        mode,
+        cores,
+        seed,
+        tick_ns,
+        directory,
+        cluster_report,
+        order,
+        turns,
+        loss,
     })
 }
