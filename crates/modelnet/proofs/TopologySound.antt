@@ -10,7 +10,7 @@ use Rattle.distill.specs.Distilled.{DistilledView, IsDistilled}
 use Rattle.distill.specs.PipeCount.{HasPipeCount}
 use Rattle.distill.proofs.OneDistilled.{one_distilled}
 use Rattle.distill.proofs.PipeCounts.{one_pipe_count, pipes_are_counted}
-use Rattle.modelnet.specs.declared.plan_fault.PlanFault.TheVariants.{TooManyPipes}
+use Rattle.plan.specs.declared.faults.PlanFault.TheVariants.{TooManyPipes}
 use Rattle.modelnet.specs.declared.status.Status.{Status}
 use Rattle.modelnet.specs.declared.status.Status.TheVariants.{BadTopology, BadPlan}
 use Rattle.modelnet.specs.Distilling.{Distils, HasTooManyPipes}

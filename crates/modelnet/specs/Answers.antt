@@ -1,35 +1,46 @@
--- What stands after each answer of a command line, and which answer it has to be.
-use Rattle.std.specs.Prelude.{◌≡◌, ℕ, List, [], Ok, Err}
+-- What stands after each answer of a command line, and which answer it has to be. What the words ask for is an order, or the fault of
+-- the words.
+use Rattle.std.specs.Prelude.{◌≡◌, ℕ, List, [], Result, Ok, Err}
 use Rattle.mn_edge.specs.declared.role.Role.{Role}
+use Rattle.core_loop.specs.TallyView.{TallyView}
+use Rattle.mn_words.specs.declared.opt.WordsFault.{WordsFault}
 use Rattle.mn_words.specs.declared.order.Order.{Order}
+use Rattle.mn_words.specs.Words.{ordered}
 use Rattle.modelnet.specs.declared.read_limits.ReadLimits.{ReadLimits}
 use Rattle.modelnet.specs.declared.status.Status.{Status}
 use Rattle.modelnet.specs.declared.status.Status.TheVariants.{NoMemory, BadWords}
-use Rattle.mn_words.specs.declared.opt.WordsFault.{WordsFault}
-use Rattle.modelnet.specs.Commands.{Host, ReadsNot, Answered}
+use Rattle.modelnet.specs.Commands.{Host, ReadsNot, Answered, TallyAfter}
 use Rattle.modelnet.specs.Exact.{IsOrNoMemory, MustAnswer, IsSoundCommand}
 use Rattle.modelnet.specs.TheCommands.{row_of}
-use Rattle.mn_words.specs.Words.{ordered}
+
+-- what words ask for
+abbrev pub Asked : Type 0
+Asked = Result Order WordsFault
 
 -- the words are an order, and this is the answer of its command
-pub record IsOrdered (limits : ReadLimits) (words : List (List ℕ)) (old new : Host) (answer : Status) : Type 0 where
+pub record IsOrdered (limits : ReadLimits) (asked : Asked) (old new : Host) (answer : Status) : Type 0 where
   pub order : Order
-  pub ordered_is : ordered words ≡ Ok order
+  pub ordered_is : asked ≡ Ok order
   pub answered : Answered (row_of limits order) old new answer
 
 -- A command line, by its answer. After bad words every role is as at entry; after out of memory every role that the words don't
 -- ask to be read.
-abbrev pub Answers : ReadLimits → List (List ℕ) → Host → Host → Status → Type 0
-Answers limits words old new (BadWords fault) = (ordered words ≡ Err fault) × ((role : Role) → new role ≡ old role)
-Answers limits words old new NoMemory =
-    (role : Role) → ((order : Order) → ordered words ≡ Ok order → ReadsNot (row_of limits order).inputs role) → new role ≡ old role
-Answers limits words old new answer = IsOrdered limits words old new answer
+abbrev pub Answers : ReadLimits → Asked → Host → Host → Status → Type 0
+Answers limits asked old new (BadWords fault) = (asked ≡ Err fault) × ((role : Role) → new role ≡ old role)
+Answers limits asked old new NoMemory =
+    (role : Role) → ((order : Order) → asked ≡ Ok order → ReadsNot (row_of limits order).inputs role) → new role ≡ old role
+Answers limits asked old new answer = IsOrdered limits asked old new answer
 
 -- Which answer it has to be: the fault of the words, or what the command that they order must answer.
-pub record IsExact (limits : ReadLimits) (words : List (List ℕ)) (old new : Host) (answer : Status) : Type 0 where
-  pub bad_words : (fault : WordsFault) → ordered words ≡ Err fault → IsOrNoMemory (BadWords fault) answer
-  pub ordered_words : (order : Order) → ordered words ≡ Ok order
+pub record IsExact (limits : ReadLimits) (asked : Asked) (old new : Host) (answer : Status) : Type 0 where
+  pub bad_words : (fault : WordsFault) → asked ≡ Err fault → IsOrNoMemory (BadWords fault) answer
+  pub ordered_words : (order : Order) → asked ≡ Ok order
       → MustAnswer (row_of limits order) old new [] (row_of limits order).inputs answer
+
+-- the tally after a command line: bad words leave it as it was
+abbrev pub Tallies : ReadLimits → Asked → Host → Host → TallyView → TallyView → Status → Type 0
+Tallies limits (Err fault) old new before after answer = after ≡ before
+Tallies limits (Ok order) old new before after answer = TallyAfter (row_of limits order) old new before after answer
 
 -- each command is sound: a refusal is one, excludes an output, and there is one output at most
 abbrev pub EachCommandIsSound : Type 0

@@ -1,7 +1,8 @@
 -- What a command is, and what stands after each of its answers: said once, for every command.
-use Rattle.std.specs.Prelude.{◌≡◌, ◌≢◌, ◌≤◌, ℕ, List, [], ◌∷◌, ◌++◌, length, map, Result, Ok, Err}
+use Rattle.std.specs.Prelude.{◌≡◌, ◌≢◌, ◌⊎◌, ◌≤◌, ℕ, List, [], ◌∷◌, ◌++◌, length, map, Result, Ok, Err}
 use Rattle.mn_edge.specs.declared.role.Role.{Role}
 use Rattle.mn_edge.specs.Part.{Part}
+use Rattle.core_loop.specs.TallyView.{TallyView}
 use Rattle.modelnet.specs.declared.status.Status.{Status}
 use Rattle.modelnet.specs.declared.status.Status.TheVariants.{Done, NoMemory, BadWords, ReadFault, WriteFault, TooLarge}
 use Rattle.modelnet.specs.Roles.{Input, Output, WasRead, WasWritten, IsReadFault, IsTooLarge, IsWriteFault}
@@ -11,13 +12,18 @@ abbrev pub Host : Type 0
 Host = Role → Part
 
 -- What a command is: the roles that it reads and those that it writes, each in the order in which it uses them; which answer
--- refuses the bytes of its first inputs, where it looks at them before it reads on; and which bytes it writes to its outputs
--- for those of all its inputs.
+-- refuses the bytes of its first inputs, where it looks at them before it reads on; and, for the bytes of all its inputs, which
+-- bytes it writes to its outputs and what it adds to the tally.
 pub record Command : Type 1 where
   pub inputs : List Input
   pub outputs : List Output
   pub refuses : List (List ℕ) → Status → Type 0
   pub writes : List (List ℕ) → List (List ℕ) → Type 0
+  pub adds : List (List ℕ) → TallyView → TallyView → Type 0
+
+-- a command that runs no cores leaves the tally as it was
+abbrev pub adds_nothing : List (List ℕ) → TallyView → TallyView → Type 0
+adds_nothing read old new = new ≡ old
 
 -- inputs with the bytes that were read of each, and outputs with the bytes that were written to each
 abbrev pub ReadInputs : Type 0
@@ -139,3 +145,15 @@ Answered c old new refusal = IsRefused c refusal old new
 abbrev pub status_of : Result (Unit {0}) Status → Status
 status_of (Ok done) = Done
 status_of (Err refused) = refused
+
+-- all inputs were read whole, and what the command adds for their bytes is in the tally
+pub record HasCounted (c : Command) (old new : Host) (before after : TallyView) : Type 0 where
+  pub reads : ReadInputs
+  pub inputs : c.inputs ≡ inputs_of reads
+  pub read : AreRead reads old new
+  pub adds : c.adds (bytes_read reads) before after
+
+-- the tally after a command, by its answer: where it isn't done, nothing may have been added
+abbrev pub TallyAfter : Command → Host → Host → TallyView → TallyView → Status → Type 0
+TallyAfter c old new before after Done = HasCounted c old new before after
+TallyAfter c old new before after answer = (after ≡ before) ⊎ HasCounted c old new before after

@@ -7,6 +7,8 @@ pub mod Ends
 pub mod Exact
 pub mod Roles
 pub mod Run
+pub mod RunSteps
+pub mod Running
 pub mod StatusTexts
 pub mod Statuses
 pub mod TheCommands

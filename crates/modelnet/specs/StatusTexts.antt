@@ -10,8 +10,12 @@ use Rattle.mn_words.specs.declared.opt.Opt.{Opt}
 use Rattle.mn_words.specs.declared.opt.Opt.TheVariants as opt
 use Rattle.mn_words.specs.declared.opt.WordsFault.{WordsFault}
 use Rattle.mn_words.specs.declared.opt.WordsFault.TheVariants.{Command, Form, Value}
-use Rattle.modelnet.specs.declared.plan_fault.PlanFault.{PlanFault}
-use Rattle.modelnet.specs.declared.plan_fault.PlanFault.TheVariants.{TooManyPipes}
+use Rattle.changes.specs.declared.faults.ChangesFault.{ChangesFault}
+use Rattle.changes.specs.declared.faults.ChangesFault.TheVariants as changes
+use Rattle.ownership.specs.declared.faults.AssignFault.{AssignFault}
+use Rattle.ownership.specs.declared.faults.AssignFault.TheVariants as assign
+use Rattle.plan.specs.declared.faults.PlanFault.{PlanFault}
+use Rattle.plan.specs.declared.faults.PlanFault.TheVariants.{TooManyPipes, Changes, Assign}
 use Rattle.modelnet.specs.declared.status.Status.{Status}
 use Rattle.modelnet.specs.declared.status.Status.TheVariants.{Done, NoMemory, BadWords, BadTopology, BadTrace, BadPlan, ReadFault, WriteFault, TooLarge, BadCapture}
 
@@ -45,8 +49,24 @@ words_fault_text Command = codes "no such command"
 words_fault_text Form = codes "bad words"
 words_fault_text (Value opt) = codes "bad value of " ++ opt_name opt
 
-abbrev pub plan_fault_text : PlanFault → List ℕ
+unfoldable pub changes_fault_text : ChangesFault → List ℕ
+changes_fault_text changes.Head = codes "bad head"
+changes_fault_text changes.Count = codes "wrong number of lines"
+changes_fault_text (changes.Line n) = codes "bad line " ++ decimal n
+changes_fault_text (changes.Range n) = codes "range in line " ++ decimal n
+changes_fault_text (changes.Order n) = codes "order in line " ++ decimal n
+
+unfoldable pub assign_fault_text : AssignFault → List ℕ
+assign_fault_text assign.Head = codes "bad head"
+assign_fault_text (assign.Line n) = codes "bad line " ++ decimal n
+assign_fault_text (assign.Core n) = codes "bad core in line " ++ decimal n
+assign_fault_text (assign.Twice n) = codes "second owner in line " ++ decimal n
+assign_fault_text (assign.Missing pipe) = codes "no owner of pipe " ++ decimal pipe
+
+unfoldable pub plan_fault_text : PlanFault → List ℕ
 plan_fault_text (TooManyPipes count) = codes "plan: " ++ decimal count ++ codes " pipes"
+plan_fault_text (Changes fault) = codes "directory: " ++ changes_fault_text fault
+plan_fault_text (Assign fault) = codes "directory: " ++ assign_fault_text fault
 
 -- the line of a status; done has none
 unfoldable pub status_text : Status → List ℕ

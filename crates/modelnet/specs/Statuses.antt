@@ -7,7 +7,8 @@ use Rattle.pcapng_in.specs.declared.fault.CaptureFault.{CaptureFault}
 use Rattle.pcapng_in.specs.declared.fault.CaptureFault.TheVariants.{Pcap, Ng}
 use Rattle.gml_reader.specs.declared.faults.GmlFault.{GmlFault}
 use Rattle.distill.specs.declared.pipes.TooManyPipes.{TooManyPipes}
-use Rattle.modelnet.specs.declared.plan_fault.PlanFault.TheVariants as plan
+use Rattle.plan.specs.declared.faults.PlanFault.{PlanFault}
+use Rattle.plan.specs.declared.faults.PlanFault.TheVariants as plan
 use Rattle.modelnet.specs.declared.status.Status.{Status}
 use Rattle.modelnet.specs.declared.status.Status.TheVariants.{Done, NoMemory, BadWords, BadTopology, BadTrace, BadPlan, ReadFault, WriteFault, TooLarge, BadCapture}
 
@@ -39,3 +40,8 @@ topology_refusal (Fault fault) = BadTopology fault
 abbrev pub pipes_refusal : Refusal TooManyPipes → Status
 pipes_refusal refusal.NoMemory = NoMemory
 pipes_refusal (Fault too_many) = BadPlan (plan.TooManyPipes too_many.count)
+
+-- out of memory, or the fault of a plan
+abbrev pub plan_refusal : Refusal PlanFault → Status
+plan_refusal refusal.NoMemory = NoMemory
+plan_refusal (Fault fault) = BadPlan fault

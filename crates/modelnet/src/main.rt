@@ -21,9 +21,12 @@ mod distill_run;
 mod distilling;
 mod laws;
 mod plain;
-mod plan_fault;
 mod read_limits;
+mod rehearse_command;
 mod roles;
+mod run_inputs;
+mod run_outputs;
+mod running;
 mod status;
 mod status_line;
 #[cfg(test)]
@@ -33,6 +36,7 @@ use crate::command_line::{command_line, words_behind};
 use crate::plain::plain;
 use crate::status::Status;
 use crate::status_line::status_line;
+use core_loop::Tally;
 use mn_edge::{Host, RealHost};
 use std::process::ExitCode;
 use std::str;
@@ -59,7 +63,8 @@ fn carry_out<H: Host>(rt: &HostRuntime, words: &[&str], host: &mut H) -> ExitCod
     requires { (role : Role) → (H.part host.old role).active ≡ false }
     ensures { IsEnding (texts words.now) (H.part host.old) (H.part host.new) (exit_status result) }
 {
-    let status = plain(rt.alloc(), words, host);
+    let mut tally = Tally::new();
+    let status = plain(rt.alloc(), words, host, &mut tally);
     end(rt, &status)
 }
 

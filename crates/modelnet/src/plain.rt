@@ -1,38 +1,45 @@
 ghost use Rattle.std.specs.Prelude.{◌≡◌, false};
 ghost use Rattle.mn_edge.specs.declared.role.Role.{Role};
-ghost use Rattle.modelnet.specs.Answers.{Answers, IsExact};
-ghost use Rattle.modelnet.specs.Commands.{Answered};
+ghost use Rattle.modelnet.specs.Answers.{Answers, IsExact, Tallies};
+ghost use Rattle.modelnet.specs.Commands.{Answered, TallyAfter};
 ghost use Rattle.modelnet.specs.TheCommands.{row_of, usual_limits, AreWithinUsual};
-ghost use Rattle.mn_words.specs.Words.{texts, IsInRange};
+ghost use Rattle.mn_words.specs.Words.{ordered, texts, IsInRange};
 
 use crate::assign_command::assign;
 use crate::chain_command::chain;
 use crate::distill_command::distill;
 use crate::read_limits::ReadLimits;
+use crate::rehearse_command::rehearse;
 use crate::status::Status;
+use core_loop::Tally;
 use mn_base::Refusal;
-use mn_base::limits::{TOPOLOGY_BYTES_MAX, TRACE_BYTES_MAX};
+use mn_base::limits::{DIRECTORY_BYTES_MAX, TOPOLOGY_BYTES_MAX, TRACE_BYTES_MAX};
 use mn_edge::Host;
 use mn_words::{Order, read_words};
 use std::alloc::Global;
 
-/// Does what a command line asks for: reads its inputs, runs, and writes its outputs.
+/// Does what a command line asks for: reads its inputs, runs, and writes its outputs. The cores of a run that came to its end count
+/// in the tally.
 ///
 /// All memory is taken before the first output is begun. The words are those after the program's name.
-pub fn plain<H: Host>(alloc: Global, words: &[&str], host: &mut H) -> Status
+pub fn plain<H: Host>(alloc: Global, words: &[&str], host: &mut H, tally: &mut Tally) -> Status
     requires { (role : Role) → (H.part host.old role).active ≡ false }
 
     // What stands after each answer, and its cause.
-    ensures answers { Answers usual_limits (texts words.now) (H.part host.old) (H.part host.new) result }
+    ensures answers { Answers usual_limits (ordered (texts words.now)) (H.part host.old) (H.part host.new) result }
 
     // Each cause has its answer, and where there is none all is done. Out of memory alone is free.
-    ensures exact { IsExact usual_limits (texts words.now) (H.part host.old) (H.part host.new) result }
+    ensures exact { IsExact usual_limits (ordered (texts words.now)) (H.part host.old) (H.part host.new) result }
+
+    // When a run is done, its cores, windows and visits have been added.
+    ensures tally { Tallies usual_limits (ordered (texts words.now)) (H.part host.old) (H.part host.new) tally.old tally.new result }
 {
     let limits = ReadLimits {
         topology: TOPOLOGY_BYTES_MAX,
         trace: TRACE_BYTES_MAX,
+        directory: DIRECTORY_BYTES_MAX,
     };
-    plain_within(alloc, &limits, words, host)
+    plain_within(alloc, &limits, words, host, tally)
 }
 
 /// The same, where no more bytes of a role are read than these limits.
@@ -41,28 +48,38 @@ pub fn plain_within<H: Host>(
     limits: &ReadLimits,
     words: &[&str],
     host: &mut H,
+    tally: &mut Tally,
 ) -> Status
     requires inactive { (role : Role) → (H.part host.old role).active ≡ false }
     requires limits { AreWithinUsual limits.now }
-    ensures { Answers limits.now (texts words.now) (H.part host.old) (H.part host.new) result }
+    ensures answers { Answers limits.now (ordered (texts words.now)) (H.part host.old) (H.part host.new) result }
+    ensures tally { Tallies limits.now (ordered (texts words.now)) (H.part host.old) (H.part host.new) tally.old tally.new result }
 {
     match read_words(alloc, words) {
-        Ok(order) => command(alloc, limits, &order, host),
+        Ok(order) => command(alloc, limits, &order, host, tally),
         Err(Refusal::NoMemory) => Status::NoMemory,
         Err(Refusal::Fault(fault)) => Status::BadWords(fault),
     }
 }
 
-fn command<H: Host>(alloc: Global, limits: &ReadLimits, order: &Order, host: &mut H) -> Status
+fn command<H: Host>(
+    alloc: Global,
+    limits: &ReadLimits,
+    order: &Order,
+    host: &mut H,
+    tally: &mut Tally,
+) -> Status
     requires inactive { (role : Role) → (H.part host.old role).active ≡ false }
     requires ranges { IsInRange order.now }
     requires limits { AreWithinUsual limits.now }
-    ensures { Answered (row_of limits.now order.now) (H.part host.old) (H.part host.new) result }
+    ensures answered { Answered (row_of limits.now order.now) (H.part host.old) (H.part host.new) result }
+    ensures tally { TallyAfter (row_of limits.now order.now) (H.part host.old) (H.part host.new) tally.old tally.new result }
 {
     let done = match order {
         Order::Chain(order) => chain(alloc, limits, order, host),
         Order::Distill(order) => distill(alloc, limits, order, host),
         Order::Assign(order) => assign(alloc, limits, order, host),
+        Order::Rehearse(order) => rehearse(alloc, limits, order, host, tally),
     };
     match done {
         Ok(()) => Status::Done,

@@ -3,4 +3,5 @@
 pub struct ReadLimits {
     pub topology: usize,
     pub trace: usize,
+    pub directory: usize,
 }

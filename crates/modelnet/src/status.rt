@@ -1,7 +1,6 @@
 ghost use Rattle.std.specs.Prelude.{◌≡◌};
 ghost use Rattle.modelnet.specs.Statuses.{status_number};
 
-use crate::plan_fault::PlanFault;
 use distill::TooManyPipes;
 use gml_reader::GmlFault;
 use mn_base::Refusal;
@@ -9,6 +8,7 @@ use mn_edge::Role;
 use mn_words::WordsFault;
 use pcap_io::PcapFault;
 use pcapng_in::{CaptureFault, NgFault};
+use plan::PlanFault;
 
 /// How a command ended.
 #[derive(Clone, Copy, Debug, PartialEq, Eq)]
@@ -23,7 +23,7 @@ pub enum Status {
     BadTopology(GmlFault),
     /// The trace is no pcap file, nor does it begin as a pcapng file; this is its first fault.
     BadTrace(PcapFault),
-    /// No run can be planned on the topology.
+    /// No run can be planned on the topology, or not with the directory.
     BadPlan(PlanFault),
     /// A call of the host on this input role failed.
     ReadFault(Role),
@@ -76,6 +76,20 @@ impl From<Refusal<TooManyPipes>> for Status {
             Refusal::Fault(TooManyPipes { count }) => {
                 Status::BadPlan(PlanFault::TooManyPipes(count))
             }
+        }
+    }
+}
+
+impl From<Refusal<PlanFault>> for Status {
+    ghost use Rattle.std.specs.Prelude.{◌≡◌};
+    ghost use Rattle.modelnet.specs.Statuses.{plan_refusal};
+
+    ghost from_gives = { λ refusal status. status ≡ plan_refusal refusal };
+
+    fn from(refusal: Refusal<PlanFault>) -> Status {
+        match refusal {
+            Refusal::NoMemory => Status::NoMemory,
+            Refusal::Fault(fault) => Status::BadPlan(fault),
         }
     }
 }

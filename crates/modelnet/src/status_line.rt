@@ -1,11 +1,13 @@
 ghost use Rattle.std.specs.Prelude.{◌≡◌, string_bytes, IfOk};
-ghost use Rattle.modelnet.specs.StatusTexts.{opt_name, plan_fault_text, role_name, words_fault_text, status_text};
+ghost use Rattle.modelnet.specs.StatusTexts.{assign_fault_text, changes_fault_text, opt_name, plan_fault_text, role_name, words_fault_text, status_text};
 
-use crate::plan_fault::PlanFault;
 use crate::status::Status;
+use changes::ChangesFault;
 use mn_base::{Bytes, NoMemory};
 use mn_edge::Role;
 use mn_words::{Opt, WordsFault};
+use ownership::AssignFault;
+use plan::PlanFault;
 use std::alloc::{AllocError, Global};
 
 /// The line that tells how a command ended, with a line feed at its end. `Done` has no line, and its text is empty.
@@ -65,11 +67,46 @@ fn words_fault_text(alloc: Global, fault: WordsFault) -> Result<String, AllocErr
     }
 }
 
+#[tactic(auto, unfolding(crate::specs::StatusTexts::plan_fault_text))]
 fn plan_fault_text(alloc: Global, fault: PlanFault) -> Result<String, AllocError>
     ensures { IfOk result (λ text. string_bytes text ≡ plan_fault_text fault) }
 {
     match fault {
         PlanFault::TooManyPipes(count) => format!(in alloc; "plan: {count} pipes"),
+        PlanFault::Changes(fault) => {
+            let text = changes_fault_text(alloc, fault)?;
+            format!(in alloc; "directory: {text}")
+        }
+        PlanFault::Assign(fault) => {
+            let text = assign_fault_text(alloc, fault)?;
+            format!(in alloc; "directory: {text}")
+        }
+    }
+}
+
+#[tactic(auto, unfolding(crate::specs::StatusTexts::changes_fault_text))]
+fn changes_fault_text(alloc: Global, fault: ChangesFault) -> Result<String, AllocError>
+    ensures { IfOk result (λ text. string_bytes text ≡ changes_fault_text fault) }
+{
+    match fault {
+        ChangesFault::Head => String::from_str(alloc, "bad head"),
+        ChangesFault::Count => String::from_str(alloc, "wrong number of lines"),
+        ChangesFault::Line(n) => format!(in alloc; "bad line {n}"),
+        ChangesFault::Range(n) => format!(in alloc; "range in line {n}"),
+        ChangesFault::Order(n) => format!(in alloc; "order in line {n}"),
+    }
+}
+
+#[tactic(auto, unfolding(crate::specs::StatusTexts::assign_fault_text))]
+fn assign_fault_text(alloc: Global, fault: AssignFault) -> Result<String, AllocError>
+    ensures { IfOk result (λ text. string_bytes text ≡ assign_fault_text fault) }
+{
+    match fault {
+        AssignFault::Head => String::from_str(alloc, "bad head"),
+        AssignFault::Line(n) => format!(in alloc; "bad line {n}"),
+        AssignFault::Core(n) => format!(in alloc; "bad core in line {n}"),
+        AssignFault::Twice(n) => format!(in alloc; "second owner in line {n}"),
+        AssignFault::Missing(pipe) => format!(in alloc; "no owner of pipe {pipe}"),
     }
 }
 

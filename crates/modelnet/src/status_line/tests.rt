@@ -1,10 +1,10 @@
-use crate::plan_fault::PlanFault;
 use crate::status::Status;
 use crate::status_line::status_line;
 use gml_reader::{GmlFault, Item};
 use mn_edge::Role;
 use mn_words::{Opt, WordsFault};
 use pcap_io::PcapFault;
+use plan::PlanFault;
 use std::alloc::Global;
 use std::test::Fail;
 use topo::{Key, Many, TopoFault};

@@ -3,10 +3,10 @@ use super::distilling::{
     TWO_STUBS, assert_prints, assert_read_faults, assert_write_faults, fan_of_routers,
     status_within,
 };
-use crate::plan_fault::PlanFault;
 use crate::status::Status;
 use gml_reader::{GmlFault, Item};
 use mn_edge::Role;
+use plan::PlanFault;
 use topo::Key;
 
 const TO_TWO_CORES: &str = "assign --topology g --mode walk:1 --cores 2";

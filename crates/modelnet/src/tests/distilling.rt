@@ -5,12 +5,12 @@ ghost use Rattle.mn_edge.specs.MemoryHostView.{stream_of};
 
 use super::words_in;
 use crate::plain::{plain, plain_within};
-use crate::plan_fault::PlanFault;
 use crate::read_limits::ReadLimits;
 use crate::status::Status;
 use gml_reader::{GmlFault, Item};
 use mn_base::limits::{TOPOLOGY_BYTES_MAX, TRACE_BYTES_MAX};
 use mn_edge::{Fail, MemoryHost, Op, Role};
+use plan::PlanFault;
 use std::alloc::AllocError;
 use std::process::Abort;
 use topo::{Key, Many, TopoFault};

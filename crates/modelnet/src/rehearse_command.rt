@@ -1,0 +1,36 @@
+ghost use Rattle.std.specs.Prelude.{◌≡◌, false};
+ghost use Rattle.mn_edge.specs.declared.role.Role.{Role};
+ghost use Rattle.mn_words.specs.Order.{IsRunOrder};
+ghost use Rattle.modelnet.specs.Commands.{Answered, TallyAfter, status_of};
+ghost use Rattle.modelnet.specs.TheCommands.{run_command, AreWithinUsual};
+
+use crate::read_limits::ReadLimits;
+use crate::run_inputs::read_plan;
+use crate::run_outputs::write_texts;
+use crate::running::rehearsed;
+use crate::status::Status;
+use core_loop::Tally;
+use mn_edge::Host;
+use mn_words::RunOrder;
+use std::alloc::Global;
+
+/// `rehearse`: emulates a trace over a topology, all cores on one thread.
+pub fn rehearse<H: Host>(
+    alloc: Global,
+    limits: &ReadLimits,
+    order: &RunOrder,
+    host: &mut H,
+    tally: &mut Tally,
+) -> Result<(), Status>
+    requires inactive { (role : Role) → (H.part host.old role).active ≡ false }
+    requires order { IsRunOrder order.now }
+    requires limits { AreWithinUsual limits.now }
+    ensures answered { Answered (run_command limits.now order.now) (H.part host.old) (H.part host.new) (status_of result) }
+    ensures tally { TallyAfter (run_command limits.now order.now) (H.part host.old) (H.part host.new) tally.old tally.new (status_of result) }
+{
+    let planned = read_plan(alloc, limits, order, host)?;
+    let Ok(texts) = rehearsed(alloc, order, planned, tally) else {
+        return Err(Status::NoMemory);
+    };
+    write_texts(order, &texts, host)
+}

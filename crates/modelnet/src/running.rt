@@ -1,0 +1,117 @@
+ghost use Rattle.std.specs.Prelude.{◌≡◌, ◌⊎◌, ◌≤◌, ℕ, List, length, All, IfOk, OnOk, OnErr, Option, None};
+ghost use Rattle.mn_base.specs.declared.limits.TheConstants.{PACKET_BYTES_MAX};
+ghost use Rattle.mn_words.specs.Order.{IsRunOrder};
+ghost use Rattle.parcel.specs.Results.{AreResults};
+ghost use Rattle.pcap_io.specs.Writing.{pcap_text};
+ghost use Rattle.modelnet.specs.Running.{IsRunnable, IsRunOf, cluster_reports, CountsRun};
+ghost use Rattle.modelnet.specs.RunSteps.{reports_of};
+
+use core_loop::{Tally, stock};
+use journal::Setup;
+use journal::laws::outputs_fit;
+use mn_base::{Bytes, NoMemory, Unbound};
+use mn_words::RunOrder;
+use parcel::CoreResult;
+use pcap_io::Trace;
+use plan::Planned;
+use report::{out_trace, print_cluster, print_report};
+use settle::{Outcome, merge};
+use std::alloc::Global;
+use world::{World, order_list};
+
+/// What a run writes.
+#[derive(Drop)]
+pub struct RunTexts {
+    /// The trace of the packets that left.
+    pub out: Trace,
+    /// The report.
+    pub report: Bytes,
+    /// The cluster report, where it is asked for.
+    pub cluster: Option<Bytes>,
+}
+
+/// Emulates a plan, all cores on one thread: by the order's drawn turns, and then by round robin.
+pub fn rehearsed(
+    alloc: Global,
+    order: &RunOrder,
+    planned: Planned,
+    tally: &mut Tally,
+) -> Result<RunTexts, NoMemory>
+    requires order { IsRunOrder order.now }
+    requires planned { IsRunnable planned }
+    ensures run { IfOk result (λ texts. IsRunOf planned.entry (pcap_text texts.out) texts.report) }
+    ensures cluster { IfOk result (λ texts. reports_of texts.cluster ≡ cluster_reports order.now.cluster_report planned.entry.setup) }
+    ensures tally { OnOk result (CountsRun planned.entry.setup tally.old tally.new) }
+    ensures may_count { OnErr result ((tally.new ≡ tally.old) ⊎ CountsRun planned.entry.setup tally.old tally.new) }
+{
+    let Planned {
+        setup,
+        bytes,
+        unbounds,
+    } = planned;
+    let results = run_world(alloc, order, &setup, bytes, tally)?;
+    run_texts(alloc, order.cluster_report, &setup, &unbounds, results)
+}
+
+/// The results of all cores of a setup whose packets have these bytes, in core order: they are turned by the order's drawn turns, and
+/// then by round robin.
+fn run_world(
+    alloc: Global,
+    order: &RunOrder,
+    setup: &Setup,
+    bytes: Vec<Bytes>,
+    tally: &mut Tally,
+) -> Result<Vec<CoreResult>, NoMemory>
+    requires each_has_bytes { length bytes.items ≡ length setup.now.packets }
+    ensures results { IfOk result (λ results. AreResults setup.now bytes.entry.items results.items) }
+    ensures tally { OnOk result (CountsRun setup.now tally.old tally.new) }
+    ensures untouched { OnErr result (tally.new ≡ tally.old) }
+{
+    let cores = setup.parts().cores;
+    let stores = stock(alloc, setup, bytes)?;
+    let mut world = World::start(alloc, setup, stores)?;
+    let turns = order_list(alloc, order.order, order.turns, cores)?;
+    world.run_order(alloc, &turns)?;
+    world.run_round_robin(alloc)?;
+    world.finish(alloc, tally)
+}
+
+/// What is written of a run with these results.
+pub fn run_texts(
+    alloc: Global,
+    cluster_report: bool,
+    setup: &Setup,
+    unbounds: &[(u32, Unbound)],
+    results: Vec<CoreResult>,
+) -> Result<RunTexts, NoMemory>
+    requires results { (bytes : List (List ℕ)) × AreResults setup.now bytes results.items
+        × All (λ b. length b ≤ PACKET_BYTES_MAX) bytes }
+    ensures run { IfOk result (λ texts. (bytes : List (List ℕ)) → AreResults setup.now bytes results.entry.items
+        → IsRunOf (record { setup = setup.now; bytes = bytes; unbounds = unbounds.now }) (pcap_text texts.out) texts.report) }
+    ensures cluster { IfOk result (λ texts. reports_of texts.cluster ≡ cluster_reports cluster_report setup.now) }
+{
+    outputs_fit(setup);
+    let outcome = merge(alloc, setup, results)?;
+    let cluster = cluster_text(alloc, cluster_report, setup, &outcome)?;
+    let report = print_report(alloc, &outcome, unbounds)?;
+    let Outcome { leaving, .. } = outcome;
+    let out = out_trace(alloc, setup, leaving)?;
+    Ok(RunTexts {
+        out,
+        report,
+        cluster,
+    })
+}
+
+/// The cluster report, where it is asked for.
+fn cluster_text(
+    alloc: Global,
+    asked: bool,
+    setup: &Setup,
+    outcome: &Outcome,
+) -> Result<Option<Bytes>, NoMemory> {
+    if !asked {
+        return Ok(None);
+    }
+    Ok(Some(print_cluster(alloc, setup, outcome)?))
+}
