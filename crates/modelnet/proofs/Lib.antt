@@ -11,7 +11,9 @@ pub mod Exact
 pub mod OneAfterAnother
 pub mod OneRun
 pub mod OneToOne
+pub mod OtherCores
 pub mod Outputs
+pub mod RunSound
 pub mod Sound
 pub mod TopologyRefused
 pub mod TopologySound

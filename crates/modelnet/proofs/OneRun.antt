@@ -1,4 +1,4 @@
--- A chain makes one output trace and one report of a trace.
+-- A run makes one output trace and one report of its plan, and a chain one of each of a trace.
 use Rattle.std.proofs.Common.{◌≡◌, ℕ, List, [], ◌∷◌, map, refl, sym, ap, subst, ◌∙◌}
 use Rattle.std.specs.List.{AllZip}
 use Rattle.mn_base.specs.declared.params.PipeParams.{PipeParams}
@@ -12,16 +12,39 @@ use Rattle.journal.specs.declared.setup.PipeChange.{PipeChange}
 use Rattle.journal.specs.declared.setup.LossBy.{LossBy}
 use Rattle.journal.specs.SetupView.{SetupView}
 use Rattle.journal.specs.Journal.{journal_of}
-use Rattle.settle.specs.OutcomeView.{OutcomeView}
 use Rattle.settle.specs.IsOutcome.{IsOutcome}
-use Rattle.settle.specs.Laws.{IsSameOutcome}
-use Rattle.settle.proofs.OneOutcome.{outcomes_agree}
-use Rattle.report.specs.Traces.{trace_of}
+use Rattle.report.specs.Laws.{DifferInCores}
 use Rattle.report.specs.Report.{report_text}
+use Rattle.report.proofs.NoCores.{outputs_read_no_core}
+use Rattle.plan.specs.PlannedView.{PlannedView}
 use Rattle.mn_words.specs.declared.order.PipeSpec.{PipeSpec}
 use Rattle.mn_words.specs.Order.{ChainView}
 use Rattle.modelnet.specs.Chain.{IsPipeOf, IsChainSetup}
 use Rattle.modelnet.specs.Run.{IsChainRun, SaysRun}
+use Rattle.modelnet.specs.Running.{IsRunOf}
+
+-- two plans differ in cores alone
+pub record DifferingPlans (p q : PlannedView) : Type 0 where
+  pub setups : DifferInCores p.setup q.setup
+  pub bytes : p.bytes ≡ q.bytes
+  pub unbounds : p.unbounds ≡ q.unbounds
+
+-- the outputs of such plans are the same
+pub same_outputs : (p q : PlannedView) (out report out' report' : List ℕ) → DifferingPlans p q → IsRunOf p out report
+    → IsRunOf q out' report' → (out ≡ out') × (report ≡ report')
+same_outputs p q out report out' report' differ run also =
+    let outcome = subst (λ bs. IsOutcome p.setup (journal_of p.setup) bs run.outcome) differ.bytes run.outcome_is in
+    let same = outputs_read_no_core p.setup q.setup q.bytes run.outcome also.outcome differ.setups outcome also.outcome_is in (
+      run.out_is ∙ ap (λ t. pcap_text t) same.trace ∙ sym also.out_is,
+      run.report_is ∙ ap (λ us. report_text run.outcome us) differ.unbounds ∙ same.report q.unbounds ∙ sym also.report_is,
+    )
+
+-- so runs of one plan write the same
+pub one_run_of : (planned : PlannedView) (out report out' report' : List ℕ) → IsRunOf planned out report
+    → IsRunOf planned out' report' → (out ≡ out') × (report ≡ report')
+one_run_of planned out report out' report' run also =
+    same_outputs planned planned out report out' report'
+    (record { setups = record { runs = refl; base_ns = refl; link_type = refl }; bytes = refl; unbounds = refl }) run also
 
 one_list : (tick_ns : ℕ) (pipes : List PipeSpec) (ps qs : List PipeParams) → AllZip (IsPipeOf tick_ns) pipes ps
     → AllZip (IsPipeOf tick_ns) pipes qs → ps ≡ qs
@@ -63,23 +86,28 @@ one_setup : (order : ChainView) (trace : Capture) (S R : SetupView) → IsChainS
 unfolding setup_of_parts
 one_setup order trace S R is also = same_parts order trace S R is also
 
--- what is written of an outcome is read off what two outcomes of a run share
-one_report : (o p : OutcomeView) → IsSameOutcome o p → report_text o [] ≡ report_text p []
-unfolding report_text
-one_report o p same = cc
+-- the plan of a chain on a trace: every packet is bound
+abbrev chain_plan : SetupView → Capture → PlannedView
+chain_plan S trace = record { setup = S; bytes = map (λ p. p.bytes) trace.packets; unbounds = [] }
+
+-- the run of a chain is that of its plan
+run_of_chain : (order : ChainView) (trace : Capture) (out report : List ℕ) (is : IsChainRun order trace out report)
+    → IsRunOf (chain_plan is.setup trace) out report
+run_of_chain order trace out report is = record {
+  outcome = is.outcome;
+  outcome_is = is.outcome_is;
+  out_is = is.out_is;
+  report_is = is.report_is;
+}
 
 -- runs of one order on one trace write the same
 one_chain_run : (order : ChainView) (trace : Capture) (out report out' report' : List ℕ) → IsChainRun order trace out report
     → IsChainRun order trace out' report' → (out ≡ out') × (report ≡ report')
 one_chain_run order trace out report out' report' run also =
     let setup = one_setup order trace run.setup also.setup run.setup_is also.setup_is in
-    let bytes = map (λ p. p.bytes) trace.packets in
-    let outcome_is = subst (λ S. IsOutcome S (journal_of S) bytes run.outcome) setup run.outcome_is in
-    let same = outcomes_agree also.setup (journal_of also.setup) bytes run.outcome also.outcome outcome_is also.outcome_is in (
-      run.out_is ∙ ap (λ S. pcap_text (trace_of S run.outcome.leaving)) setup ∙ ap (λ l. pcap_text (trace_of also.setup l)) same.leaving
-          ∙ sym also.out_is,
-      run.report_is ∙ one_report run.outcome also.outcome same ∙ sym also.report_is,
-    )
+    one_run_of (chain_plan also.setup trace) out report out' report'
+    (subst (λ S. IsRunOf (chain_plan S trace) out report) setup (run_of_chain order trace out report run))
+    (run_of_chain order trace out' report' also)
 
 pub one_run : (order : ChainView) (trace out report out' report' : List ℕ) → SaysRun order trace out report
     → SaysRun order trace out' report' → (out ≡ out') × (report ≡ report')

@@ -5,6 +5,7 @@ pub mod Copies
 pub mod Distilling
 pub mod Ends
 pub mod Exact
+pub mod OtherCores
 pub mod Roles
 pub mod Run
 pub mod RunSteps

@@ -1,6 +1,6 @@
 -- What a run over a topology makes of it, a trace and a directory: the bytes of the trace that leaves, the report, and the cluster
 -- report.
-use Rattle.std.specs.Prelude.{◌≡◌, ◌≤◌, ◌*◌, ℕ, Bool, true, false, List, [], ◌∷◌, length, All, Option, Some, None}
+use Rattle.std.specs.Prelude.{◌≡◌, ◌≤◌, ◌*◌, ℕ, Bool, true, false, List, [], ◌∷◌, length, All, Option}
 use Rattle.mn_base.specs.declared.limits.TheConstants.{PACKET_BYTES_MAX}
 use Rattle.topo.specs.TopologyView.{TopologyView}
 use Rattle.gml_reader.specs.Texts.{Reads}
@@ -9,6 +9,8 @@ use Rattle.pcap_io.specs.Writing.{pcap_text}
 use Rattle.pcapng_in.specs.CaptureFile.{SaysTrace}
 use Rattle.journal.specs.SetupView.{SetupView}
 use Rattle.journal.specs.Journal.{journal_of}
+use Rattle.parcel.specs.CoreResultView.{CoreResultView}
+use Rattle.parcel.specs.Results.{AreResults}
 use Rattle.parcel.specs.Windows.{window_count}
 use Rattle.core_loop.specs.TallyView.{TallyView, added}
 use Rattle.settle.specs.OutcomeView.{OutcomeView}
@@ -65,3 +67,9 @@ CountsRun S old new = new ≡ added old S.cores (S.cores * window_count S) (leng
 pub record IsRunnable (planned : PlannedView) : Type 0 where
   pub each_has_bytes : length planned.bytes ≡ length planned.setup.packets
   pub short : All (λ bytes. length bytes ≤ PACKET_BYTES_MAX) planned.bytes
+
+-- these are the results of all cores of a setup, and no packet of it is longer than a packet may be
+pub record HaveShortBytes (S : SetupView) (results : List CoreResultView) : Type 0 where
+  pub bytes : List (List ℕ)
+  pub results_are : AreResults S bytes results
+  pub short : All (λ b. length b ≤ PACKET_BYTES_MAX) bytes

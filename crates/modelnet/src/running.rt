@@ -1,9 +1,10 @@
-ghost use Rattle.std.specs.Prelude.{◌≡◌, ◌⊎◌, ◌≤◌, ℕ, List, length, All, IfOk, OnOk, OnErr, Option, None};
+ghost use Rattle.std.specs.Prelude.{◌≡◌, ◌⊎◌, ◌≤◌, ℕ, List, length, map, All, IfOk, OnOk, OnErr};
+ghost use Rattle.std.specs.List.{range_with_len};
 ghost use Rattle.mn_base.specs.declared.limits.TheConstants.{PACKET_BYTES_MAX};
 ghost use Rattle.mn_words.specs.Order.{IsRunOrder};
-ghost use Rattle.parcel.specs.Results.{AreResults};
+ghost use Rattle.parcel.specs.Results.{counts_at, AreResults};
 ghost use Rattle.pcap_io.specs.Writing.{pcap_text};
-ghost use Rattle.modelnet.specs.Running.{IsRunnable, IsRunOf, cluster_reports, CountsRun};
+ghost use Rattle.modelnet.specs.Running.{IsRunnable, IsRunOf, cluster_reports, CountsRun, HaveShortBytes};
 ghost use Rattle.modelnet.specs.RunSteps.{reports_of};
 
 use core_loop::{Tally, stock};
@@ -39,10 +40,10 @@ pub fn rehearsed(
 ) -> Result<RunTexts, NoMemory>
     requires order { IsRunOrder order.now }
     requires planned { IsRunnable planned }
-    ensures run { IfOk result (λ texts. IsRunOf planned.entry (pcap_text texts.out) texts.report) }
-    ensures cluster { IfOk result (λ texts. reports_of texts.cluster ≡ cluster_reports order.now.cluster_report planned.entry.setup) }
-    ensures tally { OnOk result (CountsRun planned.entry.setup tally.old tally.new) }
-    ensures may_count { OnErr result ((tally.new ≡ tally.old) ⊎ CountsRun planned.entry.setup tally.old tally.new) }
+    ensures run { IfOk result (λ texts. IsRunOf planned (pcap_text texts.out) texts.report) }
+    ensures cluster { IfOk result (λ texts. reports_of texts.cluster ≡ cluster_reports order.now.cluster_report planned.setup) }
+    ensures tally { OnOk result (CountsRun planned.setup tally.old tally.new) }
+    ensures may_count { OnErr result ((tally.new ≡ tally.old) ⊎ CountsRun planned.setup tally.old tally.new) }
 {
     let Planned {
         setup,
@@ -63,7 +64,7 @@ fn run_world(
     tally: &mut Tally,
 ) -> Result<Vec<CoreResult>, NoMemory>
     requires each_has_bytes { length bytes.items ≡ length setup.now.packets }
-    ensures results { IfOk result (λ results. AreResults setup.now bytes.entry.items results.items) }
+    ensures results { IfOk result (λ results. AreResults setup.now bytes.items results.items) }
     ensures tally { OnOk result (CountsRun setup.now tally.old tally.new) }
     ensures untouched { OnErr result (tally.new ≡ tally.old) }
 {
@@ -84,15 +85,15 @@ pub fn run_texts(
     unbounds: &[(u32, Unbound)],
     results: Vec<CoreResult>,
 ) -> Result<RunTexts, NoMemory>
-    requires results { (bytes : List (List ℕ)) × AreResults setup.now bytes results.items
-        × All (λ b. length b ≤ PACKET_BYTES_MAX) bytes }
-    ensures run { IfOk result (λ texts. (bytes : List (List ℕ)) → AreResults setup.now bytes results.entry.items
+    requires { HaveShortBytes setup.now results.items }
+    ensures run { IfOk result (λ texts. (bytes : List (List ℕ)) → AreResults setup.now bytes results.items
         → IsRunOf (record { setup = setup.now; bytes = bytes; unbounds = unbounds.now }) (pcap_text texts.out) texts.report) }
     ensures cluster { IfOk result (λ texts. reports_of texts.cluster ≡ cluster_reports cluster_report setup.now) }
 {
+    let _parts = setup.parts();
     outputs_fit(setup);
     let outcome = merge(alloc, setup, results)?;
-    let cluster = cluster_text(alloc, cluster_report, setup, &outcome)?;
+    let cluster = cluster_report_of(alloc, cluster_report, setup, &outcome)?;
     let report = print_report(alloc, &outcome, unbounds)?;
     let Outcome { leaving, .. } = outcome;
     let out = out_trace(alloc, setup, leaving)?;
@@ -104,12 +105,15 @@ pub fn run_texts(
 }
 
 /// The cluster report, where it is asked for.
-fn cluster_text(
+fn cluster_report_of(
     alloc: Global,
     asked: bool,
     setup: &Setup,
     outcome: &Outcome,
-) -> Result<Option<Bytes>, NoMemory> {
+) -> Result<Option<Bytes>, NoMemory>
+    requires { outcome.now.cores ≡ map (counts_at setup.now) (range_with_len 0 setup.now.cores) }
+    ensures { IfOk result (λ text. reports_of text ≡ cluster_reports asked setup.now) }
+{
     if !asked {
         return Ok(None);
     }
