@@ -22,6 +22,7 @@ pub mod OneEach
 pub mod OwnRuns
 pub mod OwnVisit
 pub mod Posting
+pub mod Pushed
 pub mod Ran
 pub mod Room
 pub mod RoundParcels
@@ -35,6 +36,7 @@ pub mod Sweeps
 pub mod TakenIn
 pub mod Takes
 pub mod TakingIn
+pub mod Tallying
 pub mod Tellings
 pub mod WindowFits
 pub mod WindowRun

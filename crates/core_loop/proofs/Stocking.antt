@@ -15,7 +15,7 @@ use Rattle.journal.specs.IsSetup.{IsSetup}
 use Rattle.parcel.specs.Results.{packet_bytes}
 use Rattle.payload_store.specs.StoreView.{StoreView}
 use Rattle.payload_store.proofs.Held.{same_test}
-use Rattle.core_loop.specs.Stocked.{Enters, IsStocked}
+use Rattle.core_loop.specs.Stocked.{Enters, HoldsEntrants, AreBytesOf, AreStores, AreBytesIn}
 use Rattle.mn_base.proofs.Members.{Among-index, IndexOf, index_of}
 
 -- of these packets and their bytes, side by side, the bytes of the packet of a number
@@ -52,12 +52,9 @@ holds-none S bytes core = record {
 }
 
 module _ (S : SetupView) (is : IsSetup S) (bytes : List (List ℕ)) (long : length bytes ≡ length S.packets) where
-  -- all are put in
-  pub stocked : (core : ℕ) (store : StoreView) → HoldsFirst S bytes core (length S.packets) store → IsStocked S bytes core store
-  stocked core store h = record {
-    holds = record { all = λ p e. some p e; only = only; released = h.released };
-    bytes_are = record { each_has_bytes = long; in_store = in-store };
-  }
+  -- when all are put in, a store has the bytes of the packets that enter at its core
+  pub holds-bytes : (core : ℕ) (store : StoreView) → HoldsFirst S bytes core (length S.packets) store → AreBytesOf S core store bytes
+  holds-bytes core store h = record { each_has_bytes = long; in_store = in-store }
     where
       in-store : (p : PacketPlan) → Enters S core p → fin.get store.held p.number ≡ Some (packet_bytes S bytes p.number)
       in-store p e =
@@ -70,8 +67,12 @@ module _ (S : SetupView) (is : IsSetup S) (bytes : List (List ℕ)) (long : leng
           omega (arith, less, same)))))
           ∙ ap (λ (q : PacketPlan). Some (packet_bytes S bytes q.number)) here
 
+  -- and it holds just those packets
+  pub holds-entrants : (core : ℕ) (store : StoreView) → HoldsFirst S bytes core (length S.packets) store → HoldsEntrants S core store
+  holds-entrants core store h = record { all = λ p e. some p e; only = only; released = h.released }
+    where
       some : (p : PacketPlan) → Enters S core p → IsSome (fin.get store.held p.number)
-      some p e = subst (λ (o : Option (List ℕ)). IsSome o) (sym (in-store p e)) refl
+      some p e = subst (λ (o : Option (List ℕ)). IsSome o) (sym ((holds-bytes core store h).in_store p e)) refl
 
       only : (number : ℕ) → IsSome (fin.get store.held number) → (p : PacketPlan) × Enters S core p × (p.number ≡ number)
       only number s =
@@ -199,12 +200,21 @@ all-none S bytes stores n are cores = record {
 module _ (S : SetupView) (is : IsSetup S) (bytes : List (List ℕ)) (long : length bytes ≡ length S.packets) (stores : List StoreView)
     (i : ℕ) (all : AllHold S bytes i stores) where
   -- all are put in
-  pub all-stocked : i ≡ length S.packets → (core : ℕ) (store : StoreView) → slice_get stores core ≡ Some store → IsStocked S bytes core store
-  all-stocked done core store at =
-      stocked S is bytes long core store
-      (subst (λ (n : ℕ). HoldsFirst S bytes core n store) done
+  holds-all : i ≡ length S.packets → (core : ℕ) (store : StoreView) → slice_get stores core ≡ Some store
+      → HoldsFirst S bytes core (length S.packets) store
+  holds-all done core store at =
+      subst (λ (n : ℕ). HoldsFirst S bytes core n store) done
       (subst (HoldsFirst S bytes core i) (get_or_from_slice_get stores core store store at)
-      (all.each core store (slice_get_within stores core store at))))
+      (all.each core store (slice_get_within stores core store at)))
+
+  pub are-stores : i ≡ length S.packets → AreStores S stores
+  are-stores done = record {
+    one_a_core = all.as_many;
+    holds = λ core store at. holds-entrants S is bytes long core store (holds-all done core store at);
+  }
+
+  pub are-bytes-in : i ≡ length S.packets → AreBytesIn S stores bytes
+  are-bytes-in done = λ core store at. holds-bytes S is bytes long core store (holds-all done core store at)
 
   module _ (plan : PacketPlan) (within : i < length S.packets) (at : plan ≡ get_or S.packets i plan) (store : StoreView)
       (inside : plan.core < length stores) (read : store ≡ get_or stores plan.core store) where

@@ -1,5 +1,5 @@
 -- The stores of cores before anything is run: each holds the bytes of the packets that enter there.
-use Rattle.std.specs.Prelude.{◌≡◌, ℕ, List, [], length, Some, IsSome}
+use Rattle.std.specs.Prelude.{◌≡◌, ℕ, List, [], length, Some, IsSome, slice_get}
 use Rattle.std.specs.FinMap as map
 use Rattle.mn_base.specs.Among.{Among}
 use Rattle.journal.specs.declared.setup.PacketPlan.{PacketPlan}
@@ -23,7 +23,11 @@ pub record AreBytesOf (S : SetupView) (core : ℕ) (store : StoreView) (bytes : 
   pub each_has_bytes : length bytes ≡ length S.packets
   pub in_store : (p : PacketPlan) → Enters S core p → map.get store.held p.number ≡ Some (packet_bytes S bytes p.number)
 
--- the store of this core, where the setup's packets have these bytes
-pub record IsStocked (S : SetupView) (bytes : List (List ℕ)) (core : ℕ) (store : StoreView) : Type 0 where
-  pub holds : HoldsEntrants S core store
-  pub bytes_are : AreBytesOf S core store bytes
+-- one store for each core, in core order, each with the packets that enter there
+pub record AreStores (S : SetupView) (stores : List StoreView) : Type 0 where
+  pub one_a_core : length stores ≡ S.cores
+  pub holds : (core : ℕ) (store : StoreView) → slice_get stores core ≡ Some store → HoldsEntrants S core store
+
+-- these are the bytes of the setup's packets, and each store has those of its own
+abbrev pub AreBytesIn : SetupView → List StoreView → List (List ℕ) → Type 0
+AreBytesIn S stores bytes = (core : ℕ) (store : StoreView) → slice_get stores core ≡ Some store → AreBytesOf S core store bytes

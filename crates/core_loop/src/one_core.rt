@@ -188,3 +188,12 @@ fn idle_peers(alloc: Global, setup: &Setup) -> Result<Vec<Peer>, NoMemory>
     }
     Ok(peers)
 }
+
+/// A core may move to a thread of its own: this needs the bound.
+fn moved(core: Core) -> Core {
+    through(core)
+}
+
+fn through<T: Send>(value: T) -> T {
+    value
+}

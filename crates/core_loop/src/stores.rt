@@ -1,7 +1,6 @@
-ghost use Rattle.std.specs.Prelude.{◌≡◌, ℕ, ◌<◌, [], length, replicate, Some, IfOk, slice_get};
+ghost use Rattle.std.specs.Prelude.{◌≡◌, [], length, replicate, IfOk};
 ghost use Rattle.std.specs.FinMap as map;
-ghost use Rattle.payload_store.specs.StoreView.{StoreView};
-ghost use Rattle.core_loop.specs.Stocked.{IsStocked};
+ghost use Rattle.core_loop.specs.Stocked.{AreStores, AreBytesIn};
 
 use journal::Setup;
 use mn_base::{Bytes, NoMemory};
@@ -12,9 +11,8 @@ use std::alloc::Global;
 /// setup's packets, in their order.
 pub fn stock(alloc: Global, setup: &Setup, bytes: Vec<Bytes>) -> Result<Vec<Store>, NoMemory>
     requires { length bytes.items ≡ length setup.now.packets }
-    ensures count { IfOk result (λ stores. length stores.items ≡ setup.now.cores) }
-    ensures stocked { IfOk result (λ stores. (core : ℕ) (store : StoreView)
-        → slice_get stores.items core ≡ Some store → IsStocked setup.now bytes.items core store) }
+    ensures stores { IfOk result (λ stores. AreStores setup.now stores.items) }
+    ensures bytes { IfOk result (λ stores. AreBytesIn setup.now stores.items bytes.items) }
 {
     let parts = setup.parts();
     let mut stores = empty_stores(alloc, parts.cores)?;

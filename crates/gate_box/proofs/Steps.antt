@@ -4,11 +4,12 @@ use mathlib.Core.Option as maybe
 use lib.ListN.{get_elem?}
 use prog.Atomic.{either}
 use Rattle.atomic_table.specs.Table.{State, Me, Act, step, rest, stepped, keeps, takes, gives, Valid, carried_after, put_back, Allows, Splits, opening}
+use Rattle.atomic_table.specs.Seated.{TableId}
 use Rattle.atomic_table.proofs.Lists.{at_set, exchanged}
 use Rattle.std.proofs.lemmas.List.{get_or-set_same}
 use Rattle.gate_box.specs.declared.rule.Note.{Note}
 use Rattle.gate_box.specs.declared.rule.TheConstants.{GATE, WORDS}
-use Rattle.gate_box.specs.Gate.{Phase, free, writing, full, reading, code, sent, taken, writes, reads, Lies, Fits, LaneOk, both_roles, sender_note, receiver_note, holding, passed, seized, freed, missed, Claims, Posts, TakesItem, Clears}
+use Rattle.gate_box.specs.Gate.{Phase, free, writing, full, reading, code, sent, taken, writes, reads, Lies, Fits, LaneOk, IsSeated, both_roles, sender_note, receiver_note, holding, passed, seized, freed, missed, Claims, Posts, TakesItem, Clears}
 
 -- what stands behind a list, by its place
 pub at_end : {A : Type 0} (l : List A) (a b : A) (j : ℕ) → get_elem? (l ++ a ∷ []) j ≡ maybe.some b
@@ -23,16 +24,9 @@ gate_written : (words : List ℕ) (word : ℕ) → length words ≡ WORDS → ge
 gate_written words word width =
     let within : GATE < length words = subst (λ (m : ℕ). GATE < m) (sym width) (lit< tt) in get_or-set_same words GATE word 0 within
 
+-- no Bool is both
 off : false ≡ true → ⊥
 off e = true≢false (sym e)
-
--- what the seat of an end knows between two calls: its role, how many items it posted or took, and that it holds nothing
-pub record AtRest {N T : Type 0} (me : Me (Option T) (Note N)) (sends receives : Bool) (k : ℕ) : Type 0 where
-  pub sends_is : me.0.sends ≡ sends
-  pub receives_is : me.0.receives ≡ receives
-  pub next_is : me.0.next ≡ k
-  pub idle : me.0.holds ≡ false
-  pub empty : me.1 ≡ []
 
 module _ {N T : Type 0} (is_item : N → ℕ → T → Type 0) (name : N) where
   abbrev V : Type 0
@@ -44,72 +38,92 @@ module _ {N T : Type 0} (is_item : N → ℕ → T → Type 0) (name : N) where
   -- ---- one seat moves, and the other role's stays where it is
 
   -- the sender's seat has a new note, the word a new round and phase, and the receiver is as far as before
-  pub sender_moves : (s : S) (r : LaneOk is_item name s) (id n : ℕ) (phase : Phase) (word : ℕ) (homes : List (maybe.Option (Option T)))
-      (old new : V)
-      → get_elem? s.views id ≡ maybe.some old → old.sends ≡ true
-      → word ≡ 4 * n + code phase → Lies is_item name n phase homes
-      → new.name ≡ old.name → new.receives ≡ false → new.next ≡ sent n phase → new.holds ≡ writes phase
-      → taken n phase ≡ taken r.n r.phase → reads phase ≡ reads r.phase
+  record SenderMoves (s : S) (r : LaneOk is_item name s) (id n : ℕ) (phase : Phase) (word : ℕ) (homes : List (maybe.Option (Option T)))
+      (old new : V) : Type 0 where
+    at : get_elem? s.views id ≡ maybe.some old
+    role : old.sends ≡ true
+    word_is : word ≡ 4 * n + code phase
+    lies : Lies is_item name n phase homes
+    named : new.name ≡ old.name
+    one_role : new.receives ≡ false
+    next : new.next ≡ sent n phase
+    held : new.holds ≡ writes phase
+    same_taken : taken n phase ≡ taken r.n r.phase
+    same_reads : reads phase ≡ reads r.phase
+
+  -- then the rule still holds: the receiver's seat fits the new round and phase, too
+  sender_moves : (s : S) (r : LaneOk is_item name s) (id n : ℕ) (phase : Phase) (word : ℕ) (homes : List (maybe.Option (Option T)))
+      (old new : V) → SenderMoves s r id n phase word homes old new
       → LaneOk is_item name (record { words = set s.words GATE word; homes = homes; views = set s.views id new })
-  sender_moves s r id n phase word homes old new at sends is lies named deaf next held same_taken same_reads = record {
+  sender_moves s r id n phase word homes old new m = record {
     n = n;
     phase = phase;
     sender = r.sender;
     receiver = r.receiver;
     width = length-set s.words GATE word ∙ r.width;
-    word = gate_written s.words word r.width ∙ is;
-    lies = lies;
+    word = gate_written s.words word r.width ∙ m.word_is;
+    lies = m.lies;
     seats = λ j u there. ⊎_elim (mine j u) (other j u) (at_set s.views id j new u there);
   }
     where
       its : Fits name r.n r.phase r.sender r.receiver id old
-      its = r.seats id old at
+      its = r.seats id old m.at
 
       mine : (j : ℕ) (u : V) → (j ≡ id) × (new ≡ u) → Fits name n phase r.sender r.receiver j u
       mine j u here = subst (λ (v : V). Fits name n phase r.sender r.receiver j v) here.1 (record {
-        named = named ∙ its.named;
-        sends = λ _. (here.0 ∙ (its.sends sends).0, next, held);
-        receives = λ hears. absurd (off (sym deaf ∙ hears));
+        named = m.named ∙ its.named;
+        sends = λ _. (here.0 ∙ (its.sends m.role).0, m.next, m.held);
+        receives = λ hears. absurd (off (sym m.one_role ∙ hears));
       })
 
       other : (j : ℕ) (u : V) → (j ≢ id) × (get_elem? s.views j ≡ maybe.some u) → Fits name n phase r.sender r.receiver j u
       other j u there = record {
         named = (r.seats j u there.1).named;
-        sends = λ yes. absurd (there.0 (((r.seats j u there.1).sends yes).0 ∙ sym (its.sends sends).0));
+        sends = λ yes. absurd (there.0 (((r.seats j u there.1).sends yes).0 ∙ sym (its.sends m.role).0));
         receives = λ yes. (
           ((r.seats j u there.1).receives yes).0,
-          ((r.seats j u there.1).receives yes).1 ∙ sym same_taken,
-          ((r.seats j u there.1).receives yes).2 ∙ sym same_reads,
+          ((r.seats j u there.1).receives yes).1 ∙ sym m.same_taken,
+          ((r.seats j u there.1).receives yes).2 ∙ sym m.same_reads,
         );
       }
 
   -- the same of the receiver's seat
-  pub receiver_moves : (s : S) (r : LaneOk is_item name s) (id n : ℕ) (phase : Phase) (word : ℕ) (homes : List (maybe.Option (Option T)))
-      (old new : V)
-      → get_elem? s.views id ≡ maybe.some old → old.receives ≡ true
-      → word ≡ 4 * n + code phase → Lies is_item name n phase homes
-      → new.name ≡ old.name → new.sends ≡ false → new.next ≡ taken n phase → new.holds ≡ reads phase
-      → sent n phase ≡ sent r.n r.phase → writes phase ≡ writes r.phase
+  record ReceiverMoves (s : S) (r : LaneOk is_item name s) (id n : ℕ) (phase : Phase) (word : ℕ) (homes : List (maybe.Option (Option T)))
+      (old new : V) : Type 0 where
+    at : get_elem? s.views id ≡ maybe.some old
+    role : old.receives ≡ true
+    word_is : word ≡ 4 * n + code phase
+    lies : Lies is_item name n phase homes
+    named : new.name ≡ old.name
+    one_role : new.sends ≡ false
+    next : new.next ≡ taken n phase
+    held : new.holds ≡ reads phase
+    same_sent : sent n phase ≡ sent r.n r.phase
+    same_writes : writes phase ≡ writes r.phase
+
+  -- then the rule still holds: the sender's seat fits the new round and phase, too
+  receiver_moves : (s : S) (r : LaneOk is_item name s) (id n : ℕ) (phase : Phase) (word : ℕ) (homes : List (maybe.Option (Option T)))
+      (old new : V) → ReceiverMoves s r id n phase word homes old new
       → LaneOk is_item name (record { words = set s.words GATE word; homes = homes; views = set s.views id new })
-  receiver_moves s r id n phase word homes old new at receives is lies named mute next held same_sent same_writes = record {
+  receiver_moves s r id n phase word homes old new m = record {
     n = n;
     phase = phase;
     sender = r.sender;
     receiver = r.receiver;
     width = length-set s.words GATE word ∙ r.width;
-    word = gate_written s.words word r.width ∙ is;
-    lies = lies;
+    word = gate_written s.words word r.width ∙ m.word_is;
+    lies = m.lies;
     seats = λ j u there. ⊎_elim (mine j u) (other j u) (at_set s.views id j new u there);
   }
     where
       its : Fits name r.n r.phase r.sender r.receiver id old
-      its = r.seats id old at
+      its = r.seats id old m.at
 
       mine : (j : ℕ) (u : V) → (j ≡ id) × (new ≡ u) → Fits name n phase r.sender r.receiver j u
       mine j u here = subst (λ (v : V). Fits name n phase r.sender r.receiver j v) here.1 (record {
-        named = named ∙ its.named;
-        sends = λ speaks. absurd (off (sym mute ∙ speaks));
-        receives = λ _. (here.0 ∙ (its.receives receives).0, next, held);
+        named = m.named ∙ its.named;
+        sends = λ speaks. absurd (off (sym m.one_role ∙ speaks));
+        receives = λ _. (here.0 ∙ (its.receives m.role).0, m.next, m.held);
       })
 
       other : (j : ℕ) (u : V) → (j ≢ id) × (get_elem? s.views j ≡ maybe.some u) → Fits name n phase r.sender r.receiver j u
@@ -117,11 +131,10 @@ module _ {N T : Type 0} (is_item : N → ℕ → T → Type 0) (name : N) where
         named = (r.seats j u there.1).named;
         sends = λ yes. (
           ((r.seats j u there.1).sends yes).0,
-          ((r.seats j u there.1).sends yes).1 ∙ sym same_sent,
-          ((r.seats j u there.1).sends yes).2
-              ∙ sym same_writes,
+          ((r.seats j u there.1).sends yes).1 ∙ sym m.same_sent,
+          ((r.seats j u there.1).sends yes).2 ∙ sym m.same_writes,
         );
-        receives = λ yes. absurd (there.0 (((r.seats j u there.1).receives yes).0 ∙ sym (its.receives receives).0));
+        receives = λ yes. absurd (there.0 (((r.seats j u there.1).receives yes).0 ∙ sym (its.receives m.role).0));
       }
 
   -- ---- in which round and phase a seat finds the word
@@ -182,7 +195,8 @@ module _ {N T : Type 0} (is_item : N → ℕ → T → Type 0) (name : N) where
       (w : V) × (a : Act (Option T)) × Valid s.homes me.1 a × LaneOk is_item name (stepped s GATE word id me.1 w a) × told
       (w, carried_after me.1 a)
 
-  pub claims : (slots id : ℕ) {k : ℕ} {me : M} → AtRest me true false k
+  -- the sender takes the empty box, or misses where the item before is there or being taken
+  pub claims : (slots id : ℕ) {k : ℕ} {sat lane : TableId} {me : M} → IsSeated sat lane me true false k
       → Allows (LaneOk is_item name) slots id me GATE (λ y. either (eqb y (4 * k)) (4 * k + 1) y)
       (Claims (step slots GATE (4 * k) (4 * k + 1) maybe.none) me)
   claims slots id {k} {me} seat s r wide at small =
@@ -210,9 +224,18 @@ module _ {N T : Type 0} (is_item : N → ℕ → T → Type 0) (name : N) where
             holding me.0,
             takes 0 None,
             ap (λ (hs : List (maybe.Option (Option T))). get_elem? hs 0) home,
-            sender_moves s r id k writing (4 * k + 1) (set s.homes 0 maybe.none) me.0 (holding me.0) at seat.sends_is refl
-                (ap (λ (hs : List (maybe.Option (Option T))). set hs 0 maybe.none) home) refl seat.receives_is seat.next_is refl
-                (sym found.1 ∙ ap (λ (p : Phase). taken r.n p) (sym found.0)) (ap reads (sym found.0)),
+            sender_moves s r id k writing (4 * k + 1) (set s.homes 0 maybe.none) me.0 (holding me.0) (record {
+              at = at;
+              role = seat.sends_is;
+              word_is = refl;
+              lies = ap (λ (hs : List (maybe.Option (Option T))). set hs 0 maybe.none) home;
+              named = refl;
+              one_role = seat.receives_is;
+              next = seat.next_is;
+              held = refl;
+              same_taken = sym found.1 ∙ ap (λ (p : Phase). taken r.n p) (sym found.0);
+              same_reads = ap reads (sym found.0);
+            }),
             ((λ _. ap (λ (held : List (ℕ × Option T)). (holding me.0, (0, None) ∷ held)) seat.empty), (λ differ. absurd (differ same))),
           )
 
@@ -222,7 +245,18 @@ module _ {N T : Type 0} (is_item : N → ℕ → T → Type 0) (name : N) where
             missed me.0 y,
             keeps,
             tt,
-            sender_moves s r id r.n r.phase y s.homes me.0 (missed me.0 y) at seat.sends_is is r.lies refl seat.receives_is mine.1 mine.2 refl refl,
+            sender_moves s r id r.n r.phase y s.homes me.0 (missed me.0 y) (record {
+              at = at;
+              role = seat.sends_is;
+              word_is = is;
+              lies = r.lies;
+              named = refl;
+              one_role = seat.receives_is;
+              next = mine.1;
+              held = mine.2;
+              same_taken = refl;
+              same_reads = refl;
+            }),
             (
               (λ same. absurd (differ same)),
               λ _. (
@@ -234,27 +268,44 @@ module _ {N T : Type 0} (is_item : N → ℕ → T → Type 0) (name : N) where
             ),
           )
 
-  pub posts : (slots id k : ℕ) (me : M) (x : T) → me.0.sends ≡ true → me.0.receives ≡ false → me.0.holds ≡ true → me.0.next ≡ k
-      → me.1 ≡ (0, Some x) ∷ [] → is_item me.0.name k x
+  -- a seat of one role that holds the box, with what is in it
+  record HasBox (me : M) (sends receives : Bool) (next : ℕ) (inside : Option T) : Type 0 where
+    sends_is : me.0.sends ≡ sends
+    receives_is : me.0.receives ≡ receives
+    holds : me.0.holds ≡ true
+    next_is : me.0.next ≡ next
+    carried : me.1 ≡ (0, inside) ∷ []
+
+  -- the sender gives the box with item k, and the word is that of the full box
+  posts : (slots id k : ℕ) (me : M) (x : T) → HasBox me true false k (Some x) → is_item me.0.name k x
       → Allows (LaneOk is_item name) slots id me GATE (λ _. 4 * k + 2)
       (λ _. Posts (step slots GATE (4 * k + 2) 0 maybe.none) me (4 * k + 2))
-  posts slots id k me x sends deaf holds next carried item s r wide at small = (
+  posts slots id k me x box item s r wide at small = (
     passed me.0,
     gives,
     tt,
     subst (λ (hs : List (maybe.Option (Option T))). LaneOk is_item name
         (record { words = set s.words GATE (4 * k + 2); homes = hs; views = set s.views id (passed me.0) })) homes
-        (sender_moves s r id k full (4 * k + 2) (maybe.some (Some x) ∷ []) me.0 (passed me.0) at sends refl (x, refl, its_item) refl deaf
-        (ap (λ (m : ℕ). m + 1) next) refl
-        (sym found.1 ∙ ap (λ (p : Phase). taken r.n p) (sym found.0)) (ap reads (sym found.0))),
+        (sender_moves s r id k full (4 * k + 2) (maybe.some (Some x) ∷ []) me.0 (passed me.0) (record {
+          at = at;
+          role = box.sends_is;
+          word_is = refl;
+          lies = (x, refl, its_item);
+          named = refl;
+          one_role = box.receives_is;
+          next = ap (λ (m : ℕ). m + 1) box.next_is;
+          held = refl;
+          same_taken = sym found.1 ∙ ap (λ (p : Phase). taken r.n p) (sym found.0);
+          same_reads = ap reads (sym found.0);
+        })),
     refl,
   )
     where
       mine : (id ≡ r.sender) × (me.0.next ≡ sent r.n r.phase) × (me.0.holds ≡ writes r.phase)
-      mine = (r.seats id me.0 at).sends sends
+      mine = (r.seats id me.0 at).sends box.sends_is
 
       found : (r.phase ≡ writing) × (r.n ≡ k)
-      found = found_writing r.n k r.phase (sym next ∙ mine.1) (sym holds ∙ mine.2)
+      found = found_writing r.n k r.phase (sym box.next_is ∙ mine.1) (sym box.holds ∙ mine.2)
 
       its_item : is_item name k x
       its_item = subst (λ (m : N). is_item m k x) (r.seats id me.0 at).named item
@@ -263,9 +314,10 @@ module _ {N T : Type 0} (is_item : N → ℕ → T → Type 0) (name : N) where
       out = subst (λ (p : Phase). Lies is_item name r.n p s.homes) found.0 r.lies
 
       homes : maybe.some (Some x) ∷ [] ≡ put_back s.homes me.1
-      homes = sym (ap (put_back s.homes) carried ∙ ap (λ (hs : List (maybe.Option (Option T))). set hs 0 (maybe.some (Some x))) out)
+      homes = sym (ap (put_back s.homes) box.carried ∙ ap (λ (hs : List (maybe.Option (Option T))). set hs 0 (maybe.some (Some x))) out)
 
-  pub takes_item : (slots id : ℕ) {k : ℕ} {me : M} → AtRest me false true k
+  -- the receiver takes the full box with its item, or misses where no item is there yet
+  pub takes_item : (slots id : ℕ) {k : ℕ} {sat lane : TableId} {me : M} → IsSeated sat lane me false true k
       → Allows (LaneOk is_item name) slots id me GATE (λ y. either (eqb y (4 * k + 2)) (4 * k + 3) y)
       (TakesItem is_item (step slots GATE (4 * k + 2) (4 * k + 3) maybe.none) me)
   takes_item slots id {k} {me} seat s r wide at small =
@@ -295,9 +347,18 @@ module _ {N T : Type 0} (is_item : N → ℕ → T → Type 0) (name : N) where
             seized me.0,
             takes 0 (Some lies.0),
             ap (λ (hs : List (maybe.Option (Option T))). get_elem? hs 0) lies.1,
-            receiver_moves s r id k reading (4 * k + 3) (set s.homes 0 maybe.none) me.0 (seized me.0) at seat.receives_is refl
-                (ap (λ (hs : List (maybe.Option (Option T))). set hs 0 maybe.none) lies.1) refl seat.sends_is (ap (λ (m : ℕ). m + 1) seat.next_is) refl
-                (ap (λ (m : ℕ). m + 1) (sym found.1) ∙ ap (λ (p : Phase). sent r.n p) (sym found.0)) (ap writes (sym found.0)),
+            receiver_moves s r id k reading (4 * k + 3) (set s.homes 0 maybe.none) me.0 (seized me.0) (record {
+              at = at;
+              role = seat.receives_is;
+              word_is = refl;
+              lies = ap (λ (hs : List (maybe.Option (Option T))). set hs 0 maybe.none) lies.1;
+              named = refl;
+              one_role = seat.sends_is;
+              next = ap (λ (m : ℕ). m + 1) seat.next_is;
+              held = refl;
+              same_sent = ap (λ (m : ℕ). m + 1) (sym found.1) ∙ ap (λ (p : Phase). sent r.n p) (sym found.0);
+              same_writes = ap writes (sym found.0);
+            }),
             (
               (λ _. (
                 lies.0,
@@ -316,41 +377,62 @@ module _ {N T : Type 0} (is_item : N → ℕ → T → Type 0) (name : N) where
             missed me.0 y,
             keeps,
             tt,
-            receiver_moves s r id r.n r.phase y s.homes me.0 (missed me.0 y) at seat.receives_is is r.lies refl seat.sends_is mine.1 mine.2 refl refl,
+            receiver_moves s r id r.n r.phase y s.homes me.0 (missed me.0 y) (record {
+              at = at;
+              role = seat.receives_is;
+              word_is = is;
+              lies = r.lies;
+              named = refl;
+              one_role = seat.sends_is;
+              next = mine.1;
+              held = mine.2;
+              same_sent = refl;
+              same_writes = refl;
+            }),
             ((λ same. absurd (differ same)), λ _. (refl, subst (λ (m : ℕ). y < 4 * m + 2) (sym seat.next_is) early)),
           )
 
-  pub clears : (slots id k : ℕ) (me : M) → me.0.receives ≡ true → me.0.sends ≡ false → me.0.holds ≡ true → me.0.next ≡ k + 1
-      → me.1 ≡ (0, None) ∷ []
+  -- the receiver gives the empty box, and the word is that of the next round
+  clears : (slots id k : ℕ) (me : M) → HasBox me false true (k + 1) None
       → Allows (LaneOk is_item name) slots id me GATE (λ _. 4 * k + 4)
       (λ _. Clears (step slots GATE (4 * k + 4) 0 maybe.none) me (4 * k + 4))
-  clears slots id k me receives mute holds next carried s r wide at small =
+  clears slots id k me box s r wide at small =
       let again : 4 * k + 4 ≡ 4 * (k + 1) + code free = omega arith in (
         freed me.0,
         gives,
         tt,
         subst (λ (hs : List (maybe.Option (Option T))). LaneOk is_item name
             (record { words = set s.words GATE (4 * k + 4); homes = hs; views = set s.views id (freed me.0) })) homes
-            (receiver_moves s r id (k + 1) free (4 * k + 4) (maybe.some None ∷ []) me.0 (freed me.0) at receives again refl refl mute next
-            refl
-            (sym found.1 ∙ ap (λ (p : Phase). sent r.n p) (sym found.0)) (ap writes (sym found.0))),
+            (receiver_moves s r id (k + 1) free (4 * k + 4) (maybe.some None ∷ []) me.0 (freed me.0) (record {
+              at = at;
+              role = box.receives_is;
+              word_is = again;
+              lies = refl;
+              named = refl;
+              one_role = box.sends_is;
+              next = box.next_is;
+              held = refl;
+              same_sent = sym found.1 ∙ ap (λ (p : Phase). sent r.n p) (sym found.0);
+              same_writes = ap writes (sym found.0);
+            })),
         refl,
       )
     where
       mine : (id ≡ r.receiver) × (me.0.next ≡ taken r.n r.phase) × (me.0.holds ≡ reads r.phase)
-      mine = (r.seats id me.0 at).receives receives
+      mine = (r.seats id me.0 at).receives box.receives_is
 
       found : (r.phase ≡ reading) × (r.n + 1 ≡ k + 1)
-      found = found_reading r.n (k + 1) r.phase (sym next ∙ mine.1) (sym holds ∙ mine.2)
+      found = found_reading r.n (k + 1) r.phase (sym box.next_is ∙ mine.1) (sym box.holds ∙ mine.2)
 
       out : s.homes ≡ maybe.none ∷ []
       out = subst (λ (p : Phase). Lies is_item name r.n p s.homes) found.0 r.lies
 
       homes : maybe.some None ∷ [] ≡ put_back s.homes me.1
-      homes = sym (ap (put_back s.homes) carried ∙ ap (λ (hs : List (maybe.Option (Option T))). set hs 0 (maybe.some None)) out)
+      homes = sym (ap (put_back s.homes) box.carried ∙ ap (λ (hs : List (maybe.Option (Option T))). set hs 0 (maybe.some None)) out)
 
   -- ---- the start
 
+  -- a new table stands in round 0 with an empty box, and its one seat has both roles
   pub begins : (words : List ℕ) → length words ≡ WORDS → get_or words GATE 0 ≡ 0
       → LaneOk is_item name (opening words (None ∷ []) (both_roles name))
   begins words width word = record {
@@ -414,7 +496,7 @@ module _ {N T : Type 0} (is_item : N → ℕ → T → Type 0) (name : N) where
   -- ---- as the code goes on from its first step
 
   -- after a claim and the exchange the sender holds the box with the item in it, and may post it
-  pub posts_next : (slots id : ℕ) {k : ℕ} {m m1 m2 : M} {x : T} → AtRest m true false k
+  pub posts_next : (slots id : ℕ) {k : ℕ} {sat lane : TableId} {m m1 m2 : M} {x : T} → IsSeated sat lane m true false k
       → m1 ≡ (holding m.0, (0, None) ∷ []) → m2 ≡ (m1.0, (0, Some x) ∷ rest m1.1) → is_item m.0.name k x
       → Allows (LaneOk is_item name) slots id m2 GATE (λ _. 4 * k + 2)
       (λ _. Posts (step slots GATE (4 * k + 2) 0 maybe.none) m2 (4 * k + 2))
@@ -422,7 +504,13 @@ module _ {N T : Type 0} (is_item : N → ℕ → T → Type 0) (name : N) where
       subst (λ (u : M). Allows (LaneOk is_item name) slots id u GATE (λ _. 4 * k + 2)
       (λ _. Posts (step slots GATE (4 * k + 2) 0 maybe.none) u (4 * k + 2)))
       (sym (filled ∙ ap (λ (u : M). (u.0, (0, Some x) ∷ rest u.1)) claimed))
-      (posts slots id k (holding m.0, (0, Some x) ∷ []) x seat.sends_is seat.receives_is refl seat.next_is refl item)
+      (posts slots id k (holding m.0, (0, Some x) ∷ []) x (record {
+        sends_is = seat.sends_is;
+        receives_is = seat.receives_is;
+        holds = refl;
+        next_is = seat.next_is;
+        carried = refl;
+      }) item)
 
   -- after a take the receiver holds the box
   pub holds_box : (m m1 : M) (x : T) → m1 ≡ (seized m.0, (0, Some x) ∷ []) → (old : Option T) × (m1.1 ≡ (0, old) ∷ rest m1.1)
@@ -431,7 +519,7 @@ module _ {N T : Type 0} (is_item : N → ℕ → T → Type 0) (name : N) where
       (Some x, carried ∙ ap (λ (held : List (ℕ × Option T)). (0, Some x) ∷ rest held) (sym carried))
 
   -- and after the exchange it holds it empty, and may clear the word
-  pub clears_next : (slots id : ℕ) {k : ℕ} {m m1 m2 : M} {x : T} → AtRest m false true k
+  pub clears_next : (slots id : ℕ) {k : ℕ} {sat lane : TableId} {m m1 m2 : M} {x : T} → IsSeated sat lane m false true k
       → m1 ≡ (seized m.0, (0, Some x) ∷ []) → m2 ≡ (m1.0, (0, None) ∷ rest m1.1)
       → Allows (LaneOk is_item name) slots id m2 GATE (λ _. 4 * k + 4)
       (λ _. Clears (step slots GATE (4 * k + 4) 0 maybe.none) m2 (4 * k + 4))
@@ -439,4 +527,10 @@ module _ {N T : Type 0} (is_item : N → ℕ → T → Type 0) (name : N) where
       subst (λ (u : M). Allows (LaneOk is_item name) slots id u GATE (λ _. 4 * k + 4)
       (λ _. Clears (step slots GATE (4 * k + 4) 0 maybe.none) u (4 * k + 4)))
       (sym (emptied ∙ ap (λ (u : M). (u.0, (0, None) ∷ rest u.1)) seized_it))
-      (clears slots id k (seized m.0, (0, None) ∷ []) seat.receives_is seat.sends_is refl (ap (λ (n : ℕ). n + 1) seat.next_is) refl)
+      (clears slots id k (seized m.0, (0, None) ∷ []) (record {
+        sends_is = seat.sends_is;
+        receives_is = seat.receives_is;
+        holds = refl;
+        next_is = ap (λ (n : ℕ). n + 1) seat.next_is;
+        carried = refl;
+      }))

@@ -3,6 +3,7 @@ use Rattle.std.specs.Prelude.{◌≡◌, ◌≢◌, ◌⊎◌, ℕ, ◌+◌, ◌
 use mathlib.Core.Option as maybe
 use lib.ListN.{get_elem?}
 use Rattle.atomic_table.specs.Table.{State, Me, Step, rest}
+use Rattle.atomic_table.specs.Seated.{TableId}
 use Rattle.gate_box.specs.declared.rule.Note.{Note}
 use Rattle.gate_box.specs.declared.rule.TheConstants.{GATE, WORDS}
 
@@ -69,6 +70,17 @@ pub record LaneOk {N T : Type 0} (is_item : N → ℕ → T → Type 0) (name : 
   pub word : slice_index s.words GATE ≡ 4 * n + code phase
   pub lies : Lies is_item name n phase s.homes
   pub seats : (j : ℕ) (v : Note N) → get_elem? s.views j ≡ maybe.some v → Fits name n phase sender receiver j v
+
+-- an end between two calls: it sits at its lane's table, has its one role, knows how many items it posted or took, and holds nothing
+pub record IsSeated {N T : Type 0} (seat table : TableId) (me : Me (Option T) (Note N)) (sends receives : Bool) (next : ℕ) : Type 0 where
+  pub table_is : seat ≡ table
+  pub word_count : seat.words ≡ WORDS
+  pub slot_count : seat.slots ≡ 1
+  pub sends_is : me.0.sends ≡ sends
+  pub receives_is : me.0.receives ≡ receives
+  pub next_is : me.0.next ≡ next
+  pub idle : me.0.holds ≡ false
+  pub empty : me.1 ≡ []
 
 -- ---- what a seat knows, before the roles are given to two seats and after
 

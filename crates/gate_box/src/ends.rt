@@ -30,24 +30,16 @@ pub struct Sender<L: Lane> {
 }
 
 impl<L: Lane> Model for Sender<L> {
-    ghost use Rattle.std.specs.Prelude.{◌≡◌, true, false, []};
+    ghost use Rattle.std.specs.Prelude.{true, false};
     ghost use Rattle.std.specs.Arc.{arc_value};
-    ghost use Rattle.gate_box.specs.declared.rule.TheConstants.{WORDS};
     ghost use Rattle.gate_box.specs.EndView.{EndView};
+    ghost use Rattle.gate_box.specs.Gate.{IsSeated};
 
     ghost Value = { EndView L.Name };
 
     ghost view = { λ s. record { name = s.seat.me.0.name; next = s.next; misses = s.seat.me.0.misses; found = s.seat.me.0.found } };
 
-    ghost invariant = { λ s.
-        (s.seat.table_id ≡ (arc_value s.table).shared.table_id)
-        × (s.seat.table_id.words ≡ WORDS)
-        × (s.seat.table_id.slots ≡ 1)
-        × (s.seat.me.0.sends ≡ true)
-        × (s.seat.me.0.receives ≡ false)
-        × (s.seat.me.0.next ≡ s.next)
-        × (s.seat.me.0.holds ≡ false)
-        × (s.seat.me.1 ≡ []) };
+    ghost invariant = { λ s. IsSeated s.seat.table_id (arc_value s.table).shared.table_id s.seat.me true false s.next };
 }
 
 /// The end that takes.
@@ -59,24 +51,16 @@ pub struct Receiver<L: Lane> {
 }
 
 impl<L: Lane> Model for Receiver<L> {
-    ghost use Rattle.std.specs.Prelude.{◌≡◌, true, false, []};
+    ghost use Rattle.std.specs.Prelude.{true, false};
     ghost use Rattle.std.specs.Arc.{arc_value};
-    ghost use Rattle.gate_box.specs.declared.rule.TheConstants.{WORDS};
     ghost use Rattle.gate_box.specs.EndView.{EndView};
+    ghost use Rattle.gate_box.specs.Gate.{IsSeated};
 
     ghost Value = { EndView L.Name };
 
     ghost view = { λ s. record { name = s.seat.me.0.name; next = s.next; misses = s.seat.me.0.misses; found = s.seat.me.0.found } };
 
-    ghost invariant = { λ s.
-        (s.seat.table_id ≡ (arc_value s.table).shared.table_id)
-        × (s.seat.table_id.words ≡ WORDS)
-        × (s.seat.table_id.slots ≡ 1)
-        × (s.seat.me.0.sends ≡ false)
-        × (s.seat.me.0.receives ≡ true)
-        × (s.seat.me.0.next ≡ s.next)
-        × (s.seat.me.0.holds ≡ false)
-        × (s.seat.me.1 ≡ []) };
+    ghost invariant = { λ s. IsSeated s.seat.table_id (arc_value s.table).shared.table_id s.seat.me false true s.next };
 }
 
 impl<L: Lane> Sender<L> {

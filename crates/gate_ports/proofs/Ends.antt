@@ -1,6 +1,6 @@
 -- A post and a take change one end of all.
 use Rattle.std.proofs.Common.{◌≡◌, ◌≢◌, ◌⊎◌, inl, inr, ℕ, ◌+◌, ◌<◌, ◌≤◌, List, length, map, slice_index, slice_index_or, refl, sym, ap, ◌∙◌, subst, arith, get_or-set_same, get_or-set_other}
-use Rattle.std.proofs.Math.ListN.{set, length-set}
+use Rattle.std.proofs.Math.ListN.{set}
 use Rattle.std.proofs.lemmas.List.{map-set, get_or-map, length-map}
 use Rattle.std.proofs.lemmas.Bool.{cases_order}
 use Rattle.std.specs.Vec.{with_item}
@@ -43,6 +43,16 @@ module _ (f : EndView LaneName → ℕ) (es : List (EndView LaneName)) (i : ℕ)
         ap (λ (xs : List ℕ). slice_index xs j) (map-set f es i new) ∙ get_or-set_other (map f es) i j (f new) 0 ne;
   }
 
+-- an end was lent out of a row and came back: its number didn't fall, nor did its count of misses
+pub record ComesBackTo (es : List (EndView LaneName)) (i : ℕ) (old new : EndView LaneName) : Type 0 where
+  pub read : old ≡ slice_index_or es i old
+  pub more : old.next ≤ new.next
+  pub no_fewer : old.misses ≤ new.misses
+
+-- a call that answered Ok raised its end's number
+pub one_more : {old new : EndView LaneName} → new ≡ record old { next = old.next + 1 } → old.next ≤ new.next
+one_more is = let e = ap (λ (x : EndView LaneName). x.next) is in omega (arith, e)
+
 -- the sender of the lane to a core changes
 pub record Posts (p q : GatePortsView) (to : ℕ) (old new : EndView LaneName) : Type 0 where
   pub keeps : NothingFalls p q
@@ -53,17 +63,18 @@ pub record Posts (p q : GatePortsView) (to : ℕ) (old new : EndView LaneName) :
   pub new_misses : slice_index q.post_misses to ≡ new.misses
   pub new_word : slice_index q.post_words to ≡ new.found
 
-pub posts : (s : Inside) (p : GatePortsView) → ports_view s ≡ p → AreEnds s → (to : ℕ) → to < p.setup.cores → (old new : EndView LaneName)
-    → old ≡ slice_index_or s.senders.items to old → old.next ≤ new.next → old.misses ≤ new.misses
+-- then nothing falls, and its number, misses and word alone are other ones
+pub posts : (s : Inside) (p : GatePortsView) → ports_view s ≡ p → AreEnds s → (to : ℕ) → to < p.setup.cores
+    → (old new : EndView LaneName) → ComesBackTo s.senders.items to old new
     → Posts p (ports_view record s { senders = with_item s.senders to new }) to old new
-posts s p is are to known old new read more no_fewer =
+posts s p is are to known old new back =
     subst (λ (v : GatePortsView). Posts v (ports_view record s { senders = with_item s.senders to new }) to old new) is record {
       keeps = record {
         setup = refl;
         core = refl;
-        posts = rises _ _ to new.next nexts_set (omega (arith, old_next, more));
+        posts = rises _ _ to new.next nexts_set (omega (arith, old_next, back.more));
         takes = λ j. omega arith;
-        post_misses = rises _ _ to new.misses misses_set (omega (arith, old_misses, no_fewer));
+        post_misses = rises _ _ to new.misses misses_set (omega (arith, old_misses, back.no_fewer));
         take_misses = λ j. omega arith;
       };
       others = nexts_set.elsewhere;
@@ -80,10 +91,10 @@ posts s p is are to known old new read more no_fewer =
         let n = are.sender_count in omega (arith, h, n)
 
     old_next : slice_index (map (λ (e : EndView LaneName). e.next) s.senders.items) to ≡ old.next
-    old_next = told (λ e. e.next) s.senders.items to within old read
+    old_next = told (λ e. e.next) s.senders.items to within old back.read
 
     old_misses : slice_index (map (λ (e : EndView LaneName). e.misses) s.senders.items) to ≡ old.misses
-    old_misses = told (λ e. e.misses) s.senders.items to within old read
+    old_misses = told (λ e. e.misses) s.senders.items to within old back.read
 
     nexts_set : SetsOne (nexts s.senders.items) (nexts (set s.senders.items to new)) to new.next
     nexts_set = sets (λ e. e.next) s.senders.items to within new
@@ -104,18 +115,19 @@ pub record Takes (p q : GatePortsView) (from : ℕ) (old new : EndView LaneName)
   pub new_misses : slice_index q.take_misses from ≡ new.misses
   pub new_word : slice_index q.take_words from ≡ new.found
 
-pub takes : (s : Inside) (p : GatePortsView) → ports_view s ≡ p → AreEnds s → (from : ℕ) → from < p.setup.cores → (old new : EndView LaneName)
-    → old ≡ slice_index_or s.receivers.items from old → old.next ≤ new.next → old.misses ≤ new.misses
+-- then nothing falls, and its number, misses and word alone are other ones
+pub takes : (s : Inside) (p : GatePortsView) → ports_view s ≡ p → AreEnds s → (from : ℕ) → from < p.setup.cores
+    → (old new : EndView LaneName) → ComesBackTo s.receivers.items from old new
     → Takes p (ports_view record s { receivers = with_item s.receivers from new }) from old new
-takes s p is are from known old new read more no_fewer =
+takes s p is are from known old new back =
     subst (λ (v : GatePortsView). Takes v (ports_view record s { receivers = with_item s.receivers from new }) from old new) is record {
       keeps = record {
         setup = refl;
         core = refl;
         posts = λ j. omega arith;
-        takes = rises _ _ from new.next nexts_set (omega (arith, old_next, more));
+        takes = rises _ _ from new.next nexts_set (omega (arith, old_next, back.more));
         post_misses = λ j. omega arith;
-        take_misses = rises _ _ from new.misses misses_set (omega (arith, old_misses, no_fewer));
+        take_misses = rises _ _ from new.misses misses_set (omega (arith, old_misses, back.no_fewer));
       };
       others = nexts_set.elsewhere;
       old_next = old_next;
@@ -131,10 +143,10 @@ takes s p is are from known old new read more no_fewer =
         let n = are.receiver_count in omega (arith, h, n)
 
     old_next : slice_index (map (λ (e : EndView LaneName). e.next) s.receivers.items) from ≡ old.next
-    old_next = told (λ e. e.next) s.receivers.items from within old read
+    old_next = told (λ e. e.next) s.receivers.items from within old back.read
 
     old_misses : slice_index (map (λ (e : EndView LaneName). e.misses) s.receivers.items) from ≡ old.misses
-    old_misses = told (λ e. e.misses) s.receivers.items from within old read
+    old_misses = told (λ e. e.misses) s.receivers.items from within old back.read
 
     nexts_set : SetsOne (nexts s.receivers.items) (nexts (set s.receivers.items from new)) from new.next
     nexts_set = sets (λ e. e.next) s.receivers.items from within new

@@ -1,5 +1,5 @@
 -- `NothingFalls` is reflexive and transitive.
-use Rattle.std.specs.Prelude.{◌≡◌, ℕ, ◌≤◌, refl}
+use Rattle.std.specs.Prelude.{refl}
 use Rattle.std.proofs.Common.{arith, ◌∙◌}
 use Rattle.gate_ports.specs.GatePortsView.{GatePortsView, NothingFalls}
 

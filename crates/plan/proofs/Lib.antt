@@ -12,3 +12,4 @@ pub mod LoopSteps
 pub mod OneAnswer
 pub mod WholePlan
 pub mod Arcs
+pub mod OnePlan

@@ -19,3 +19,9 @@ abbrev pub OneFault : Type 0
 OneFault =
     (t : TopologyView) (options : Options) (text : Option (List ℕ)) (fault other : PlanFault)
     → PlanFirst t options text fault → PlanFirst t options text other → fault ≡ other
+
+-- an input has one plan
+abbrev pub OnePlan : Type 0
+OnePlan =
+    (t : TopologyView) (trace : Capture) (options : Options) (text : Option (List ℕ)) (planned other : PlannedView)
+    → IsPlan t trace options text planned → IsPlan t trace options text other → planned ≡ other

@@ -8,9 +8,11 @@ use Rattle.workload.specs.declared.shape.TheConstants.{ROUTERS, HOSTS, CHORDS, B
 use Rattle.mn_base.specs.Draws.{state_at, draw_at}
 use Rattle.workload.specs.Gml.{router_line, host_line, trunk_line, access_line, router_lines, host_lines, ring_lines, chord_lines, access_lines, workload_gml}
 
+-- a number below 2^32 has at most ten digits
 short : (n : ℕ) → n < 2 ^ 32 → length (decimal n) ≤ 10
 short n low = length-decimal-le 10 n (omega arith) (omega arith) (omega arith)
 
+-- n lines of at most 200 bytes each have at most 200 n bytes
 few : (f : ℕ → List ℕ) (a n : ℕ) → ((i : ℕ) → i < a + n → length (f i) ≤ 200) → length (flat_map f (range_with_len a n)) ≤ 200 * n
 few f a zero each = omega arith
 few f a (suc n) each =
@@ -19,6 +21,7 @@ few f a (suc n) each =
     let both = length-append (f a) (flat_map f (range_with_len (a + 1) n)) in
     omega arith
 
+-- a line has a fixed text and at most five numbers
 length-router_line : (i : ℕ) → i < 100 → length (router_line i) ≤ 200
 length-router_line i low =
     let number = short i (omega arith) in
@@ -47,6 +50,7 @@ length-access_line x j low =
     let l = short (500 + draw_at x 0 1000) (omega arith) in
     simp length-append (omega arith)
 
+-- and each kind of lines, as many as there are of it
 length-router_lines : (n : ℕ) → n ≤ 64 → length (router_lines n) ≤ 200 * n
 unfolding router_lines
 length-router_lines n most = few router_line 0 n (λ i low. length-router_line i (omega arith))
@@ -71,6 +75,7 @@ length-access_lines : (x n : ℕ) → n ≤ 64 → length (access_lines x n) ≤
 unfolding access_lines
 length-access_lines x n most = few (λ j. access_line (state_at x j) j) 0 n (λ i low. length-access_line (state_at x i) i (omega arith))
 
+-- 170 lines: far fewer bytes than a topology may have
 pub gml_fits : (number : ℕ) → length (workload_gml number) ≤ TOPOLOGY_BYTES_MAX
 unfolding workload_gml
 gml_fits number =

@@ -2,14 +2,17 @@
 use Rattle.std.proofs.Common.{◌≡◌, ℕ, zero, suc, ◌+◌, ap, sym, ◌∙◌, refl, arith, add-zero}
 use Rattle.mn_base.specs.Draws.{state_after, choice_at, state_at, draw_at}
 
+-- no draw was made yet
 pub no_draw : (x : ℕ) → x ≡ state_at x 0
 unfolding state_at
 no_draw x = refl
 
+-- after one draw
 pub one_draw : (x s : ℕ) → s ≡ state_after x → s ≡ state_at x 1
 unfolding state_at
 one_draw x s is = is
 
+-- one draw more
 pub next_state : (x s s' n : ℕ) → s ≡ state_at x n → s' ≡ state_after s → s' ≡ state_at x (n + 1)
 unfolding state_at
 next_state x s s' n at is =
@@ -28,6 +31,7 @@ state_at-sum x a (suc b) =
     let more : suc (a + b) ≡ a + suc b = omega arith in
     ap state_after (state_at-sum x a b) ∙ ap (λ n. state_at x n) more
 
+-- b draws after a draws, as a loop makes them
 pub later_state : (x s s' a b n : ℕ) → s ≡ state_at x a → s' ≡ state_at s b → n ≡ a + b → s' ≡ state_at x n
 later_state x s s' a b n at is sum =
     is ∙ ap (λ t. state_at t b) at ∙ state_at-sum x a b ∙ ap (λ m. state_at x m) (sym sum)

@@ -4,7 +4,6 @@ pub mod InOrder
 pub mod NoEvents
 pub mod NoStandstill
 pub mod OneTurn
-pub mod Pushed
 pub mod Rounds
 pub mod Starts
 pub mod TurnSays

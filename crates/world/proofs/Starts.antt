@@ -6,7 +6,7 @@ use Rattle.journal.specs.SetupView.{SetupView}
 use Rattle.payload_store.specs.StoreView.{StoreView}
 use Rattle.core_loop.specs.CoreView.{CoreView}
 use Rattle.world.specs.Starting.{HasStarted, CoresStarted}
-use Rattle.world.proofs.Pushed.{get-push}
+use Rattle.core_loop.proofs.Pushed.{get-push}
 
 pub started-none : (S : SetupView) (stores : List StoreView) → CoresStarted S stores 0 []
 started-none S stores = record { count = refl; each = λ core c e. cc }

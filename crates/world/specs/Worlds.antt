@@ -3,23 +3,10 @@ use Rattle.std.specs.Prelude.{◌≡◌, ◌≢◌, ◌⊎◌, ℕ, ◌<◌, ◌
 use Rattle.journal.specs.SetupView.{SetupView}
 use Rattle.parcel.specs.Known.{IsLeastKnown}
 use Rattle.parcel.specs.PlainBoxesView.{box_at, HasParcel, HasNoParcel}
-use Rattle.payload_store.specs.StoreView.{StoreView}
 use Rattle.core_loop.specs.CoreView.{CoreView, windows_of, posted_of, taken_of, IsOtherCore}
-use Rattle.core_loop.specs.Stocked.{HoldsEntrants, AreBytesOf}
 use Rattle.core_loop.specs.WorldState.{CoreStands}
 use Rattle.core_loop.specs.Turns.{NoCountFalls, HasMoved, OwesPost, OwesTake, HasTradedAll, IsCoreDone}
 use Rattle.world.specs.WorldView.{WorldView, IsCoreOf}
-
--- ---- before anything is run
-
--- one store for each core, in core order, each with the packets that enter there
-pub record AreStores (S : SetupView) (stores : List StoreView) : Type 0 where
-  pub one_a_core : length stores ≡ S.cores
-  pub holds : (core : ℕ) (store : StoreView) → slice_get stores core ≡ Some store → HoldsEntrants S core store
-
--- these are the bytes of the setup's packets, and each store has those of its own
-abbrev pub AreBytesIn : SetupView → List StoreView → List (List ℕ) → Type 0
-AreBytesIn S stores bytes = (core : ℕ) (store : StoreView) → slice_get stores core ≡ Some store → AreBytesOf S core store bytes
 
 -- ---- what the world keeps
 

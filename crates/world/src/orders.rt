@@ -1,4 +1,4 @@
-ghost use Rattle.std.specs.Prelude.{◌≡◌, ◌≤◌, IfOk};
+ghost use Rattle.std.specs.Prelude.{◌≡◌, ◌≤◌, ◌<◌, All, IfOk};
 ghost use Rattle.mn_base.specs.declared.limits.TheConstants.{CORES_MAX};
 ghost use Rattle.world.specs.Orders.{drawn_order};
 
@@ -10,6 +10,7 @@ pub fn order_list(alloc: Global, number: u64, turns: u32, cores: u32) -> Result<
     requires some_core { 1 ≤ cores }
     requires few_cores { cores ≤ CORES_MAX }
     ensures order { IfOk result (λ order. order.items ≡ drawn_order number turns cores) }
+    ensures below { IfOk result (λ order. All (λ core. core < cores) order.items) }
 {
     let mut draws = Draws::new(number);
     let mut order = Vec::with_capacity(alloc, turns as usize)?;

@@ -3,10 +3,11 @@ ghost use Rattle.journal.specs.Journal.{journal_of};
 ghost use Rattle.parcel.specs.Windows.{window_count};
 ghost use Rattle.parcel.specs.Results.{AreResults};
 ghost use Rattle.core_loop.specs.CoreView.{CoreView, windows_of, posted_of, taken_of};
+ghost use Rattle.core_loop.specs.Stocked.{AreStores, AreBytesIn};
 ghost use Rattle.core_loop.specs.TallyView.{added};
 ghost use Rattle.world.specs.WorldView.{IsCoreOf};
 ghost use Rattle.world.specs.Starting.{CoresStarted};
-ghost use Rattle.world.specs.Worlds.{AreStores, AreBytesIn, WorldStands, IsWorldDone};
+ghost use Rattle.world.specs.Worlds.{WorldStands, IsWorldDone};
 
 use core_loop::{Core, Tally};
 use journal::Setup;

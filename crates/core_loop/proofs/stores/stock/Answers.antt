@@ -4,7 +4,7 @@ use Rattle.std.proofs.lemmas.Iterator.Adapters.{YieldsList-from_vec}
 use Rattle.std.proofs.lemmas.Iterator.Consumers.{YieldsList-turn, YieldsList-end}
 use Rattle.journal.specs.declared.setup.PacketPlan.{PacketPlan}
 use Rattle.journal.specs.SetupView.{SetupView}
-use Rattle.core_loop.proofs.Stocking.{all-none, all-stocked, fresh-at, all-more}
+use Rattle.core_loop.proofs.Stocking.{all-none, are-stores, are-bytes-in, fresh-at, all-more}
 use Rattle.core_loop.proofs.stores.stock.Goals as goal
 
 pub loop-payload-init : goal.loop-payload-init
@@ -52,11 +52,20 @@ loop-payload-preserved c =
       met = omega (arith, length_push c.loop-payload.yielded c.in-Some.payload, c.loop-payload.invariant.met);
     }
 
-pub returns-clause-stocked : goal.returns-clause-stocked
-returns-clause-stocked c =
+pub returns-clause-stores : goal.returns-clause-stores
+returns-clause-stores c =
     let ended =
     YieldsList-end (YieldsList-from_vec c.args.bytes.items (search rules) (search rules)) c.loop-payload.yielded _ c.loop-payload.yielded_by
     _ c.next.new.self c.in-None.is c.next.ensures.steps in
     let done : c.loop-payload.index ≡ length c.args.setup.now.packets = omega (arith, ended.1, c.loop-payload.invariant.met, c.requires) in
-    all-stocked c.args.setup.now c.parts-parts.ensures.kept c.args.bytes.items c.requires c.loop-payload.stores.items c.loop-payload.index
+    are-stores c.args.setup.now c.parts-parts.ensures.kept c.args.bytes.items c.requires c.loop-payload.stores.items c.loop-payload.index
+    c.loop-payload.invariant.all done
+
+pub returns-clause-bytes : goal.returns-clause-bytes
+returns-clause-bytes c =
+    let ended =
+    YieldsList-end (YieldsList-from_vec c.args.bytes.items (search rules) (search rules)) c.loop-payload.yielded _ c.loop-payload.yielded_by
+    _ c.next.new.self c.in-None.is c.next.ensures.steps in
+    let done : c.loop-payload.index ≡ length c.args.setup.now.packets = omega (arith, ended.1, c.loop-payload.invariant.met, c.requires) in
+    are-bytes-in c.args.setup.now c.parts-parts.ensures.kept c.args.bytes.items c.requires c.loop-payload.stores.items c.loop-payload.index
     c.loop-payload.invariant.all done

@@ -3,13 +3,11 @@ use Rattle.gate_box.proofs.Steps.{takes_item, holds_box, clears_next}
 use Rattle.gate_box.proofs.ends.Receiver.try_take.Goals as goal
 
 pub compare_exchange-found-requires : goal.compare_exchange-found-requires
-compare_exchange-found-requires g c =
-    let i = c.self.invariant in (
-      search rules,
-      search rules,
-      takes_item g.L.Lane.is_item c.deref.result.now.shared.key _ c.self.inside.seat.id
-          (record { sends_is = i.3; receives_is = i.4; next_is = i.5; idle = i.6; empty = i.7 }),
-    )
+compare_exchange-found-requires g c = (
+  search rules,
+  search rules,
+  takes_item g.L.Lane.is_item c.deref.result.now.shared.key _ c.self.inside.seat.id c.self.invariant,
+)
 
 pub exchange-requires : goal.exchange-requires
 exchange-requires g c =
@@ -21,10 +19,8 @@ exchange-requires g c =
 
 pub store-requires : goal.store-requires
 store-requires g c =
-    let i = c.self.invariant in
     let got = c.compare_exchange-found.ensures.2.0 c.if-found-round.false in (
       search rules,
       search rules,
-      clears_next g.L.Lane.is_item c.deref.result.now.shared.key _ _
-          (record { sends_is = i.3; receives_is = i.4; next_is = i.5; idle = i.6; empty = i.7 }) got.1 c.exchange.ensures.3,
+      clears_next g.L.Lane.is_item c.deref.result.now.shared.key _ _ c.self.invariant got.1 c.exchange.ensures.3,
     )

@@ -4,22 +4,18 @@ use Rattle.gate_box.proofs.Steps.{claims, posts_next}
 use Rattle.gate_box.proofs.ends.Sender.try_post.Goals as goal
 
 pub compare_exchange-found-requires : goal.compare_exchange-found-requires
-compare_exchange-found-requires g c =
-    let i = c.self.invariant in (
-      search rules,
-      search rules,
-      claims g.L.Lane.is_item c.deref.result.now.shared.key _ c.self.inside.seat.id
-          (record { sends_is = i.3; receives_is = i.4; next_is = i.5; idle = i.6; empty = i.7 }),
-    )
+compare_exchange-found-requires g c = (
+  search rules,
+  search rules,
+  claims g.L.Lane.is_item c.deref.result.now.shared.key _ c.self.inside.seat.id c.self.invariant,
+)
 
 pub store-requires : goal.store-requires
-store-requires g c =
-    let i = c.self.invariant in (
-      search rules,
-      search rules,
-      posts_next g.L.Lane.is_item c.deref.result.now.shared.key _ _
-          (record { sends_is = i.3; receives_is = i.4; next_is = i.5; idle = i.6; empty = i.7 })
-          (c.compare_exchange-found.ensures.2.0 c.if-found-free.false)
-          c.exchange.ensures.3
-          (subst (λ (v : EndView _). g.L.Lane.is_item v.name v.next c.args.item) (sym c.self.view_is) c.requires.item),
-    )
+store-requires g c = (
+  search rules,
+  search rules,
+  posts_next g.L.Lane.is_item c.deref.result.now.shared.key _ _ c.self.invariant
+      (c.compare_exchange-found.ensures.2.0 c.if-found-free.false)
+      c.exchange.ensures.3
+      (subst (λ (v : EndView _). g.L.Lane.is_item v.name v.next c.args.item) (sym c.self.view_is) c.requires.item),
+)
