@@ -9,6 +9,7 @@ pub mod DistillSound
 pub mod DistillSteps
 pub mod Exact
 pub mod OneAfterAnother
+pub mod OnePlanned
 pub mod OneRun
 pub mod OneToOne
 pub mod OtherCores
@@ -17,3 +18,4 @@ pub mod RunSound
 pub mod Sound
 pub mod TopologyRefused
 pub mod TopologySound
+pub mod WorldResults

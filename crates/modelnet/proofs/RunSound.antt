@@ -8,21 +8,18 @@ use Rattle.gml_reader.proofs.OneAnswer as topologies
 use Rattle.pcapng_in.specs.declared.fault.CaptureFault.{CaptureFault}
 use Rattle.pcapng_in.specs.declared.fault.CaptureFault.TheVariants.{Pcap, Ng}
 use Rattle.pcapng_in.specs.CaptureFile.{CaptureFirst}
-use Rattle.pcapng_in.proofs.ByFormat.{one_capture_reading, never_capture_both, one_capture_fault}
+use Rattle.pcapng_in.proofs.ByFormat.{never_capture_both, one_capture_fault}
 use Rattle.plan.specs.declared.faults.PlanFault.{PlanFault}
-use Rattle.plan.specs.Faults.{PlanFirst}
 use Rattle.plan.specs.PlannedView.{PlannedView}
-use Rattle.plan.specs.Setups.{IsPlan}
-use Rattle.plan.proofs.FirstFaults as plans
-use Rattle.plan.proofs.OnePlan.{one_plan}
 use Rattle.mn_words.specs.Order.{RunView}
 use Rattle.modelnet.specs.declared.read_limits.ReadLimits.{ReadLimits}
 use Rattle.modelnet.specs.declared.status.Status.{Status}
 use Rattle.modelnet.specs.declared.status.Status.TheVariants.{BadTopology, BadTrace, BadPlan, BadCapture}
 use Rattle.modelnet.specs.Exact.{IsRefusal, IsSoundCommand}
-use Rattle.modelnet.specs.Running.{options_of, IsRunOf, cluster_reports}
+use Rattle.modelnet.specs.Running.{options_of, Plans, HasPlanFault, IsRunOf, cluster_reports}
 use Rattle.modelnet.specs.Statuses.{trace_refusal}
 use Rattle.modelnet.specs.TheCommands.{IsDirectoryRead, RunPlans, RunIsRefused, SaysRunOf, run_refuses, run_writes, run_command}
+use Rattle.modelnet.proofs.OnePlanned.{plans_or_fault, one_plan_fault, one_planned}
 use Rattle.modelnet.proofs.OneRun.{one_run_of}
 
 run_refusals : (order : RunView) (read : List (List ℕ)) (status : Status) → run_refuses order read status → IsRefusal status
@@ -69,45 +66,35 @@ one_directory (Some name) (text ∷ []) [] (Some given) None is also = absurd al
 one_directory (Some name) (text ∷ []) (more ∷ back) given other is also = absurd also
 one_directory (Some name) (text ∷ more ∷ front) back given other is also = absurd is
 
--- bytes with a plan have no fault
-plans_or_fault : (order : RunView) (topology trace : List ℕ) (front back : List (List ℕ)) (planned : PlannedView) (fault : PlanFault)
-    → RunPlans order topology trace (front ++ back) planned → RunIsRefused order topology trace front fault → ⊥
-plans_or_fault order topology trace front back planned fault p f =
-    let has = f.has in
-    let plan = p.plans in
-    let given = one_directory order.directory front back f.directory p.directory f.given p.given in
-    let target = topologies.one_reading topology has.target plan.target has.reads plan.reads in
-    let first = subst (λ d. PlanFirst has.target (options_of order) d fault) given has.first in
-    plans.never_both plan.target (options_of order) p.directory plan.capture planned fault plan.plan
-    (subst (λ t. PlanFirst t (options_of order) p.directory fault) target first)
+module _ (order : RunView) (topology trace : List ℕ) where
+  -- what was planned has no fault, where no more than the directory was read
+  run_plans_or_fault : (front back : List (List ℕ)) (planned : PlannedView) (fault : PlanFault)
+      → RunPlans order topology trace (front ++ back) planned → RunIsRefused order topology trace front fault → ⊥
+  run_plans_or_fault front back planned fault p f =
+      let given = one_directory order.directory front back f.directory p.directory f.given p.given in
+      plans_or_fault (options_of order) topology trace p.directory planned fault p.plans
+      (subst (λ d. HasPlanFault (options_of order) topology trace d fault) given f.has)
 
--- and one fault at most
-one_plan_fault : (order : RunView) (topology trace : List ℕ) (rest : List (List ℕ)) (fault other : PlanFault)
-    → RunIsRefused order topology trace rest fault → RunIsRefused order topology trace rest other → fault ≡ other
-one_plan_fault order topology trace rest fault other f g =
-    let has = f.has in
-    let also = g.has in
-    let given = one_directory order.directory rest [] f.directory g.directory f.given
-    (subst (λ read. IsDirectoryRead order.directory read g.directory) (sym (append-nil rest)) g.given) in
-    let target = topologies.one_reading topology has.target also.target has.reads also.reads in
-    let first = subst (λ d. PlanFirst has.target (options_of order) d fault) given has.first in
-    plans.one_fault also.target (options_of order) g.directory fault other
-    (subst (λ t. PlanFirst t (options_of order) g.directory fault) target first) also.first
+  -- the directory that was read is one
+  same_directory : (rest : List (List ℕ)) (given other : Option (List ℕ)) → IsDirectoryRead order.directory rest given
+      → IsDirectoryRead order.directory rest other → given ≡ other
+  same_directory rest given other is also =
+      one_directory order.directory rest [] given other is
+      (subst (λ read. IsDirectoryRead order.directory read other) (sym (append-nil rest)) also)
 
--- and one plan at most
-pub one_run_plan : (order : RunView) (topology trace : List ℕ) (rest : List (List ℕ)) (planned other : PlannedView)
-    → RunPlans order topology trace rest planned → RunPlans order topology trace rest other → planned ≡ other
-one_run_plan order topology trace rest planned other p q =
-    let plan = p.plans in
-    let also = q.plans in
-    let given = one_directory order.directory rest [] p.directory q.directory p.given
-    (subst (λ read. IsDirectoryRead order.directory read q.directory) (sym (append-nil rest)) q.given) in
-    let target = topologies.one_reading topology plan.target also.target plan.reads also.reads in
-    let capture = one_capture_reading trace plan.capture also.capture plan.says also.says in
-    let by_directory = subst (λ d. IsPlan plan.target plan.capture (options_of order) d planned) given plan.plan in
-    let by_trace = subst (λ t. IsPlan plan.target t (options_of order) q.directory planned) capture by_directory in
-    one_plan also.target also.capture (options_of order) q.directory planned other
-    (subst (λ t. IsPlan t also.capture (options_of order) q.directory planned) target by_trace) also.plan
+  one_run_fault : (rest : List (List ℕ)) (fault other : PlanFault) → RunIsRefused order topology trace rest fault
+      → RunIsRefused order topology trace rest other → fault ≡ other
+  one_run_fault rest fault other f g =
+      let given = same_directory rest f.directory g.directory f.given g.given in
+      one_plan_fault (options_of order) topology trace g.directory fault other
+      (subst (λ d. HasPlanFault (options_of order) topology trace d fault) given f.has) g.has
+
+  one_run_plan : (rest : List (List ℕ)) (planned other : PlannedView) → RunPlans order topology trace rest planned
+      → RunPlans order topology trace rest other → planned ≡ other
+  one_run_plan rest planned other p q =
+      let given = same_directory rest p.directory q.directory p.given q.given in
+      one_planned (options_of order) topology trace q.directory planned other
+      (subst (λ d. Plans (options_of order) topology trace d planned) given p.plans) q.plans
 
 run_one_refusal : (order : RunView) (read : List (List ℕ)) (one other : Status) → run_refuses order read one → run_refuses order read other
     → one ≡ other
@@ -119,7 +106,7 @@ run_one_refusal order (topology ∷ []) one other is also =
 run_one_refusal order (topology ∷ trace ∷ directory ∷ rest) one other is also =
     let first = refused_with order topology trace directory rest one is in
     let second = refused_with order topology trace directory rest other also in
-    first.1 ∙ ap (λ f. BadPlan f) (one_plan_fault order topology trace (directory ∷ rest) first.0 second.0 first.2 second.2) ∙ sym second.1
+    first.1 ∙ ap (λ f. BadPlan f) (one_run_fault order topology trace (directory ∷ rest) first.0 second.0 first.2 second.2) ∙ sym second.1
 run_one_refusal order (topology ∷ trace ∷ []) one other is also =
     elim (refused_by order topology trace one is) [
       | inl f ↦
@@ -130,7 +117,7 @@ run_one_refusal order (topology ∷ trace ∷ []) one other is also =
       | inr m ↦
           elim (refused_by order topology trace other also) [
             | inl g ↦ let has = m.2.has in absurd (never_capture_both trace has.capture g.0 has.says g.2)
-            | inr n ↦ m.1 ∙ ap (λ x. BadPlan x) (one_plan_fault order topology trace [] m.0 n.0 m.2 n.2) ∙ sym n.1
+            | inr n ↦ m.1 ∙ ap (λ x. BadPlan x) (one_run_fault order topology trace [] m.0 n.0 m.2 n.2) ∙ sym n.1
           ]
     ]
 
@@ -154,12 +141,12 @@ run_never_both order (topology ∷ []) (trace ∷ rest) written status refused s
 run_never_both order (topology ∷ trace ∷ directory ∷ rest) back written status refused says =
     let first = refused_with order topology trace directory rest status refused in
     let planned = written_plan order topology trace (directory ∷ (rest ++ back)) written says in
-    plans_or_fault order topology trace (directory ∷ rest) back planned.0 first.0 planned.1 first.2
+    run_plans_or_fault order topology trace (directory ∷ rest) back planned.0 first.0 planned.1 first.2
 run_never_both order (topology ∷ trace ∷ []) back written status refused says =
     let planned = written_plan order topology trace back written says in
     elim (refused_by order topology trace status refused) [
       | inl f ↦ let plan = planned.1.plans in never_capture_both trace plan.capture f.0 plan.says f.2
-      | inr f ↦ plans_or_fault order topology trace [] back planned.0 f.0 planned.1 f.2
+      | inr f ↦ run_plans_or_fault order topology trace [] back planned.0 f.0 planned.1 f.2
     ]
 
 -- the outputs of one plan

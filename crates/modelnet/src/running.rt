@@ -50,15 +50,16 @@ pub fn rehearsed(
         bytes,
         unbounds,
     } = planned;
-    let results = run_world(alloc, order, &setup, bytes, tally)?;
+    let results = run_world(alloc, order.order, order.turns, &setup, bytes, tally)?;
     run_texts(alloc, order.cluster_report, &setup, &unbounds, results)
 }
 
-/// The results of all cores of a setup whose packets have these bytes, in core order: they are turned by the order's drawn turns, and
-/// then by round robin.
-fn run_world(
+/// The results of all cores of a setup whose packets have these bytes, in core order: so many turns are drawn from the stream of draws
+/// that starts at `order`, and then they are turned by round robin.
+pub fn run_world(
     alloc: Global,
-    order: &RunOrder,
+    order: u64,
+    turns: u32,
     setup: &Setup,
     bytes: Vec<Bytes>,
     tally: &mut Tally,
@@ -71,7 +72,7 @@ fn run_world(
     let cores = setup.parts().cores;
     let stores = stock(alloc, setup, bytes)?;
     let mut world = World::start(alloc, setup, stores)?;
-    let turns = order_list(alloc, order.order, order.turns, cores)?;
+    let turns = order_list(alloc, order, turns, cores)?;
     world.run_order(alloc, &turns)?;
     world.run_round_robin(alloc)?;
     world.finish(alloc, tally)
@@ -90,6 +91,7 @@ pub fn run_texts(
         → IsRunOf (record { setup = setup.now; bytes = bytes; unbounds = unbounds.now }) (pcap_text texts.out) texts.report) }
     ensures cluster { IfOk result (λ texts. reports_of texts.cluster ≡ cluster_reports cluster_report setup.now) }
 {
+    // A read of the setup, so that the proof knows what its type keeps.
     let _parts = setup.parts();
     outputs_fit(setup);
     let outcome = merge(alloc, setup, results)?;
