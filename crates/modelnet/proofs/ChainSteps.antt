@@ -11,12 +11,13 @@ use Rattle.modelnet.specs.declared.read_limits.ReadLimits.{ReadLimits}
 use Rattle.modelnet.specs.declared.status.Status.{Status}
 use Rattle.modelnet.specs.declared.status.Status.TheVariants.{Done, NoMemory}
 use Rattle.mn_words.specs.Order.{ChainView}
+use Rattle.modelnet.specs.Progress.{HasWritten}
 use Rattle.modelnet.specs.Roles.{Input, input, output, ReadsInput, WritesOutput}
 use Rattle.modelnet.specs.Commands.{Host, Answered}
 use Rattle.modelnet.specs.Run.{SaysRun}
 use Rattle.modelnet.specs.Statuses.{trace_refusal}
 use Rattle.modelnet.specs.TheCommands.{chain_refuses, chain_command}
-use Rattle.modelnet.proofs.OneAfterAnother.{Others, HasWritten, has_begun, has_read, stops_reading, refuses, has_made, has_written, stops_writing, is_done}
+use Rattle.modelnet.proofs.OneAfterAnother.{Others, has_begun, has_read, stops_reading, refuses, has_made, has_written, stops_writing, is_done}
 use Rattle.modelnet.proofs.ChainSound.{chain_is_sound}
 
 -- nothing is refused before the trace is read

@@ -14,8 +14,12 @@ pub mod OneRun
 pub mod OneToOne
 pub mod OtherCores
 pub mod Outputs
+pub mod RunReads
 pub mod RunSound
+pub mod RunWrites
+pub mod Runnable
 pub mod Sound
+pub mod Tallied
 pub mod TopologyRefused
 pub mod TopologySound
 pub mod WorldResults

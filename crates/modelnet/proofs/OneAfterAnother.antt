@@ -1,11 +1,13 @@
 -- One role after another: what stands after each call of a command, whatever command it is.
 use Rattle.std.proofs.Common.{◌≡◌, ◌≢◌, ◌≤◌, ◌⊎◌, ℕ, List, [], ◌∷◌, ◌++◌, length, Ok, Err, refl, sym, ap, ◌∙◌, subst, inl, inr}
+use Rattle.std.proofs.lemmas.List.{append-nil}
 use Rattle.mn_edge.specs.declared.role.Role.{Role}
 use Rattle.mn_edge.specs.Part.{Part}
 use Rattle.modelnet.specs.declared.status.Status.{Status}
 use Rattle.modelnet.specs.declared.status.Status.TheVariants.{Done, NoMemory, BadWords, BadTopology, BadTrace, BadPlan, ReadFault, WriteFault, TooLarge, BadCapture}
 use Rattle.modelnet.specs.Commands.{Host, Command, ReadInputs, WrittenOutputs, inputs_of, bytes_read, outputs_of, bytes_written, ReadsNot, WritesNot, AreRead, AreWritten, Stands, StopsAt, Passes, FewerPass, IsRefused, Answered}
-use Rattle.modelnet.specs.Exact.{Accepts, IsSoundCommand, IsRefusal}
+use Rattle.modelnet.specs.Exact.{Accepts, IsSoundCommand, IsRefusal, NoMemoryOrRefuses}
+use Rattle.modelnet.specs.Progress.{HasJustRead, HasRead, HasWritten}
 use Rattle.modelnet.specs.Roles.{Input, Output, WasRead, WasWritten, IsReadFault, IsTooLarge, IsWriteFault, ReadsInput, WritesOutput}
 
 -- a call on one role left every other as it was
@@ -140,21 +142,7 @@ stops_at reads writes at IsCut old mid new s unread unwritten others cut =
       others = λ role not r w. others role not ∙ s.others role r w;
     }
 
--- how far a command has come
-
--- these inputs were read whole and their bytes are accepted, and these are to be read
-pub record HasRead (c : Command) (reads : ReadInputs) (later : List Input) (old new : Host) : Type 0 where
-  pub inputs : c.inputs ≡ inputs_of reads ++ later
-  pub passes : Passes c (bytes_read reads)
-  pub stands : Stands reads [] old new
-
--- all inputs were read whole, these outputs were written whole, and these are to be written with these bytes
-pub record HasWritten (c : Command) (reads : ReadInputs) (writes : WrittenOutputs) (later : List Output) (later_bytes : List (List ℕ))
-    (old new : Host) : Type 0 where
-  pub inputs : c.inputs ≡ inputs_of reads
-  pub outputs : c.outputs ≡ outputs_of writes ++ later
-  pub says : c.writes (bytes_read reads) (bytes_written writes ++ later_bytes)
-  pub stands : Stands reads writes old new
+-- how a command comes further
 
 nothing_passes : (c : Command) → Accepts c [] → Passes c []
 nothing_passes c accepts [] back status is refused = accepts status refused
@@ -168,14 +156,11 @@ has_begun c host accepts = record {
   stands = record { read = tt; written = tt; others = λ role r w. refl };
 }
 
--- bytes that nothing refuses pass after those that do
-passes_push : (c : Command) (past : List (List ℕ)) (bytes : List ℕ) → Passes c past
-    → ((status : Status) → c.refuses (past ++ bytes ∷ []) status → ⊥) → Passes c (past ++ bytes ∷ [])
-passes_push c past bytes passes fine front back status is refused =
-    elim (split_last past bytes front back is) [
-      | inl whole ↦ fine status (subst (λ b. c.refuses b status) whole refused)
-      | inr part ↦ passes front part.0 status part.1 refused
-    ]
+-- bytes that nothing refuses pass where those of fewer inputs do
+passes_all : (c : Command) (bytes : List (List ℕ)) → FewerPass c bytes → Accepts c bytes → Passes c bytes
+passes_all c bytes fewer fine front [] status is refused =
+    fine status (subst (λ b. c.refuses b status) (sym (is ∙ append-nil front)) refused)
+passes_all c bytes fewer fine front (next ∷ back) status is refused = fewer front back next status is refused
 
 -- a list is no front of itself with an element more
 no_longer : {X : Type 0} (xs : List X) (x : X) (ys : List X) → xs ≡ xs ++ x ∷ ys → ⊥
@@ -191,22 +176,34 @@ fewer_push c past bytes passes front back next status is refused =
       | inr part ↦ passes front part.0 status part.1 refused
     ]
 
+-- the next input was read whole
+pub just_read : (c : Command) (reads : ReadInputs) (at : Input) (later : List Input) (bytes : List ℕ) (old mid new : Host)
+    → HasRead c reads (at ∷ later) old mid
+    → ReadsNot (inputs_of reads) at.role → ReadsInput at (mid at.role) (new at.role) (Ok bytes) → Others at.role mid new
+    → HasJustRead c (reads ++ (at, bytes) ∷ []) later old new
+just_read c reads at later bytes old mid new so none own others = record {
+  inputs = so.inputs ∙ sym (inputs_push reads (at, bytes) later);
+  fewer = subst (FewerPass c) (sym (bytes_read_push reads (at, bytes))) (fewer_push c (bytes_read reads) bytes so.passes);
+  stands = stands_read reads (at, bytes) old mid new so.stands none others own.0 own.1;
+}
+
+-- nothing refuses what was read
+pub accepted : (c : Command) (reads : ReadInputs) (later : List Input) (old new : Host) → HasJustRead c reads later old new
+    → Accepts c (bytes_read reads) → HasRead c reads later old new
+accepted c reads later old new so fine = record {
+  inputs = so.inputs;
+  passes = passes_all c (bytes_read reads) so.fewer fine;
+  stands = so.stands;
+}
+
 -- the next input was read whole, and nothing refuses its bytes
 pub has_read : (c : Command) (reads : ReadInputs) (at : Input) (later : List Input) (bytes : List ℕ) (old mid new : Host)
     → HasRead c reads (at ∷ later) old mid
     → ReadsNot (inputs_of reads) at.role → ReadsInput at (mid at.role) (new at.role) (Ok bytes) → Others at.role mid new
-    → ((status : Status) → c.refuses (bytes_read reads ++ bytes ∷ []) status → ⊥) → HasRead c (reads ++ (at, bytes) ∷ []) later old new
-has_read c reads at later bytes old mid new so none own others fine = record {
-  inputs = so.inputs ∙ sym (inputs_push reads (at, bytes) later);
-  passes = subst (Passes c) (sym (bytes_read_push reads (at, bytes))) (passes_push c (bytes_read reads) bytes so.passes fine);
-  stands = stands_read reads (at, bytes) old mid new so.stands none others own.0 own.1;
-}
-
--- memory was refused while inputs are read, or after
-pub no_memory : (c : Command) (reads : ReadInputs) (later : List Input) (old new : Host) → HasRead c reads later old new
-    → Answered c old new NoMemory
-no_memory c reads later old new so role unread =
-    so.stands.others role (reads_not_front (inputs_of reads) later role (subst (λ inputs. ReadsNot inputs role) so.inputs unread)) tt
+    → Accepts c (bytes_read reads ++ bytes ∷ []) → HasRead c (reads ++ (at, bytes) ∷ []) later old new
+has_read c reads at later bytes old mid new so none own others fine =
+    accepted c (reads ++ (at, bytes) ∷ []) later old new (just_read c reads at later bytes old mid new so none own others)
+    (subst (Accepts c) (sym (bytes_read_push reads (at, bytes))) fine)
 
 -- memory was refused while the next input is read, or after
 no_memory_at : (c : Command) (reads : ReadInputs) (at : Input) (later : List Input) (old mid new : Host)
@@ -241,27 +238,34 @@ stops_reading c reads at later (TooLarge role) old mid new so none own others = 
 }
 stops_reading c reads at later status old mid new so none own others = absurd own
 
--- the next input was read whole, and its bytes are refused
-pub refuses : (c : Command) (reads : ReadInputs) (at : Input) (later : List Input) (bytes : List ℕ) (status : Status)
-    (old mid new : Host) → IsSoundCommand c → HasRead c reads (at ∷ later) old mid
-    → ReadsNot (inputs_of reads) at.role → ReadsInput at (mid at.role) (new at.role) (Ok bytes) → Others at.role mid new
-    → (status ≡ NoMemory) ⊎ c.refuses (bytes_read reads ++ bytes ∷ []) status → Answered c old new status
-refuses c reads at later bytes status old mid new sound so none own others (inl empty) =
-    subst (Answered c old new) (sym empty) (no_memory_at c reads at later old mid new so others)
-refuses c reads at later bytes status old mid new sound so none own others (inr refused) = by_kind status refused
-    (sound.refusals (bytes_read reads ++ bytes ∷ []) status refused)
+-- what refuses bytes is a refusal
+abbrev pub AreRefusals : Command → Type 0
+AreRefusals c = (bytes : List (List ℕ)) (status : Status) → c.refuses bytes status → IsRefusal status
+
+-- memory was refused after inputs were read
+pub no_memory_after : (c : Command) (reads : ReadInputs) (later : List Input) (old new : Host) → HasJustRead c reads later old new
+    → Answered c old new NoMemory
+no_memory_after c reads later old new so role unread =
+    so.stands.others role (reads_not_front (inputs_of reads) later role (subst (λ inputs. ReadsNot inputs role) so.inputs unread)) tt
+
+-- what was read is refused
+pub refused : (c : Command) (reads : ReadInputs) (later : List Input) (status : Status) (old new : Host) → AreRefusals c
+    → HasJustRead c reads later old new → NoMemoryOrRefuses c.refuses (bytes_read reads) status → Answered c old new status
+refused c reads later status old new refusals so (inl empty) =
+    subst (Answered c old new) (sym empty) (no_memory_after c reads later old new so)
+refused c reads later status old new refusals so (inr is) = by_kind status is (refusals (bytes_read reads) status is)
   where
-    by_bytes : (answer : Status) → c.refuses (bytes_read reads ++ bytes ∷ []) answer → IsRefused c answer old new
+    by_bytes : (answer : Status) → c.refuses (bytes_read reads) answer → IsRefused c answer old new
     by_bytes answer is = record {
-      reads = reads ++ (at, bytes) ∷ [];
+      reads = reads;
       later = later;
-      inputs = so.inputs ∙ sym (inputs_push reads (at, bytes) later);
-      fewer = subst (FewerPass c) (sym (bytes_read_push reads (at, bytes))) (fewer_push c (bytes_read reads) bytes so.passes);
-      refused = subst (λ b. c.refuses b answer) (sym (bytes_read_push reads (at, bytes))) is;
-      stands = stands_read reads (at, bytes) old mid new so.stands none others own.0 own.1;
+      inputs = so.inputs;
+      fewer = so.fewer;
+      refused = is;
+      stands = so.stands;
     }
 
-    by_kind : (answer : Status) → c.refuses (bytes_read reads ++ bytes ∷ []) answer → IsRefusal answer → Answered c old new answer
+    by_kind : (answer : Status) → c.refuses (bytes_read reads) answer → IsRefusal answer → Answered c old new answer
     by_kind Done is none_of = absurd none_of
     by_kind NoMemory is none_of = absurd none_of
     by_kind (BadWords fault) is none_of = absurd none_of
@@ -273,19 +277,25 @@ refuses c reads at later bytes status old mid new sound so none own others (inr 
     by_kind (BadPlan fault) is none_of = by_bytes (BadPlan fault) is
     by_kind (BadCapture fault) is none_of = by_bytes (BadCapture fault) is
 
+-- the next input was read whole, and its bytes are refused
+pub refuses : (c : Command) (reads : ReadInputs) (at : Input) (later : List Input) (bytes : List ℕ) (status : Status)
+    (old mid new : Host) → IsSoundCommand c → HasRead c reads (at ∷ later) old mid
+    → ReadsNot (inputs_of reads) at.role → ReadsInput at (mid at.role) (new at.role) (Ok bytes) → Others at.role mid new
+    → NoMemoryOrRefuses c.refuses (bytes_read reads ++ bytes ∷ []) status → Answered c old new status
+refuses c reads at later bytes status old mid new sound so none own others is =
+    refused c (reads ++ (at, bytes) ∷ []) later status old new sound.refusals
+    (just_read c reads at later bytes old mid new so none own others)
+    (subst (λ b. NoMemoryOrRefuses c.refuses b status) (sym (bytes_read_push reads (at, bytes))) is)
+
 -- all inputs were read whole, and these bytes are to be written
 pub has_made : (c : Command) (reads : ReadInputs) (outs : List (List ℕ)) (old new : Host) → HasRead c reads [] old new
     → c.writes (bytes_read reads) outs → HasWritten c reads [] c.outputs outs old new
 has_made c reads outs old new so says = record {
-  inputs = so.inputs ∙ all (inputs_of reads);
+  inputs = so.inputs ∙ append-nil (inputs_of reads);
   outputs = refl;
   says = says;
   stands = so.stands;
 }
-  where
-    all : (inputs : List Input) → inputs ++ [] ≡ inputs
-    all [] = refl
-    all (i ∷ inputs) = ap (λ is. i ∷ is) (all inputs)
 
 -- the next output was written whole
 pub has_written : (c : Command) (reads : ReadInputs) (writes : WrittenOutputs) (at : Output) (later : List Output) (bytes : List ℕ)
@@ -329,15 +339,7 @@ is_done c reads writes old new so = record {
   reads = reads;
   writes = writes;
   inputs = so.inputs;
-  outputs = so.outputs ∙ all (outputs_of writes);
-  says = subst (c.writes (bytes_read reads)) (none (bytes_written writes)) so.says;
+  outputs = so.outputs ∙ append-nil (outputs_of writes);
+  says = subst (c.writes (bytes_read reads)) (append-nil (bytes_written writes)) so.says;
   stands = so.stands;
 }
-  where
-    all : (outputs : List Output) → outputs ++ [] ≡ outputs
-    all [] = refl
-    all (o ∷ outputs) = ap (λ os. o ∷ os) (all outputs)
-
-    none : (bytes : List (List ℕ)) → bytes ++ [] ≡ bytes
-    none [] = refl
-    none (b ∷ bytes) = ap (λ bs. b ∷ bs) (none bytes)

@@ -4,8 +4,9 @@ use Rattle.modelnet.specs.declared.status.Status.{Status}
 use Rattle.modelnet.specs.declared.status.Status.TheVariants.{Done}
 use Rattle.modelnet.specs.Commands.{Host, Command, Answered}
 use Rattle.modelnet.specs.Exact.{Accepts, IsSoundCommand, NoMemoryOrRefuses}
+use Rattle.modelnet.specs.Progress.{HasRead, HasWritten}
 use Rattle.modelnet.specs.Roles.{Input, Output, input, ReadsInput, WritesOutput}
-use Rattle.modelnet.proofs.OneAfterAnother.{Others, HasRead, HasWritten, has_begun, has_read, stops_reading, refuses, has_made, has_written, stops_writing, is_done}
+use Rattle.modelnet.proofs.OneAfterAnother.{Others, has_begun, has_read, stops_reading, refuses, has_made, has_written, stops_writing, is_done}
 
 -- it reads `at` and writes `to`, and refuses nothing before it has read
 pub record IsOneToOne (c : Command) (at : Input) (to : Output) : Type 0 where
@@ -33,7 +34,7 @@ pub record HasInput (at : Input) (bytes : List ℕ) (old new : Host) : Type 0 wh
   pub own : ReadsInput (input at.role name at.limit) (old at.role) (new at.role) (Ok bytes)
   pub others : Others at.role old new
 
-named_input : (at : Input) (bytes : List ℕ) (old new : Host) → HasInput at bytes old new
+pub named_input : (at : Input) (bytes : List ℕ) (old new : Host) → HasInput at bytes old new
     → ReadsInput at (old at.role) (new at.role) (Ok bytes)
 named_input at bytes old new read =
     subst (λ n. ReadsInput (input at.role n at.limit) (old at.role) (new at.role) (Ok bytes)) read.named read.own

@@ -6,6 +6,7 @@ pub mod Distilling
 pub mod Ends
 pub mod Exact
 pub mod OtherCores
+pub mod Progress
 pub mod Roles
 pub mod Run
 pub mod RunSteps

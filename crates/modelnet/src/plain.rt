@@ -1,7 +1,7 @@
 ghost use Rattle.std.specs.Prelude.{◌≡◌, false};
 ghost use Rattle.mn_edge.specs.declared.role.Role.{Role};
 ghost use Rattle.modelnet.specs.Answers.{Answers, IsExact, Tallies};
-ghost use Rattle.modelnet.specs.Commands.{Answered, TallyAfter};
+ghost use Rattle.modelnet.specs.Commands.{Answered, TallyAfter, status_of};
 ghost use Rattle.modelnet.specs.TheCommands.{row_of, usual_limits, AreWithinUsual};
 ghost use Rattle.mn_words.specs.Words.{ordered, texts, IsInRange};
 
@@ -75,14 +75,20 @@ fn command<H: Host>(
     ensures answered { Answered (row_of limits.now order.now) (H.part host.old) (H.part host.new) result }
     ensures tally { TallyAfter (row_of limits.now order.now) (H.part host.old) (H.part host.new) tally.old tally.new result }
 {
-    let done = match order {
-        Order::Chain(order) => chain(alloc, limits, order, host),
-        Order::Distill(order) => distill(alloc, limits, order, host),
-        Order::Assign(order) => assign(alloc, limits, order, host),
-        Order::Rehearse(order) => rehearse(alloc, limits, order, host, tally),
-    };
-    match done {
+    match order {
+        Order::Chain(order) => ended(chain(alloc, limits, order, host)),
+        Order::Distill(order) => ended(distill(alloc, limits, order, host)),
+        Order::Assign(order) => ended(assign(alloc, limits, order, host)),
+        Order::Rehearse(order) => ended(rehearse(alloc, limits, order, host, tally)),
+    }
+}
+
+/// How a command ended that was carried out, or stopped with this status.
+fn ended(outcome: Result<(), Status>) -> Status
+    ensures { result ≡ status_of outcome }
+{
+    match outcome {
         Ok(()) => Status::Done,
-        Err(refused) => refused,
+        Err(status) => status,
     }
 }

@@ -10,6 +10,7 @@ use crate::run_outputs::write_texts;
 use crate::running::rehearsed;
 use crate::status::Status;
 use core_loop::Tally;
+use mn_base::NoMemory;
 use mn_edge::Host;
 use mn_words::RunOrder;
 use std::alloc::Global;
@@ -29,8 +30,9 @@ pub fn rehearse<H: Host>(
     ensures tally { TallyAfter (run_command limits.now order.now) (H.part host.old) (H.part host.new) tally.old tally.new (status_of result) }
 {
     let planned = read_plan(alloc, limits, order, host)?;
-    let Ok(texts) = rehearsed(alloc, order, planned, tally) else {
-        return Err(Status::NoMemory);
+    let texts = match rehearsed(alloc, order, planned, tally) {
+        Ok(texts) => texts,
+        Err(NoMemory) => return Err(Status::NoMemory),
     };
     write_texts(order, &texts, host)
 }

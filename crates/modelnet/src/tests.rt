@@ -1,21 +1,25 @@
 // Out of memory may stand in the place of any answer, and no contract can rule that out. So each status that a command has
 // comes in a test here, with memory:
 //
-// | status | `chain` | `distill`, in `distilling` | `assign`, in `assigning` |
-// |---|---|---|---|
-// | Done | one_packet_leaves_at_tick_60 | two_stubs_are_walked_in | two_stubs_are_dealt_to_two_cores |
-// | BadWords | words_that_are_no_order_are_refused | the same for all commands | the same for all commands |
-// | BadTopology | | a_topology_is_refused_by_its_first_fault | the same name |
-// | BadTrace | a_cut_record_is_refused_and_nothing_is_written | | |
-// | BadPlan(TooManyPipes) | | a_mesh_of_1001000_pipes_is_refused | the same name |
-// | ReadFault(Topology) | | a_failed_read_of_the_topology_is_named | the same name |
-// | ReadFault(Trace) | a_failed_read_is_named_by_its_role | | |
-// | WriteFault(Out) | a_failed_write_leaves_a_front_of_the_output_trace | | |
-// | WriteFault(Report) | a_failed_write_of_the_report_leaves_the_output_trace_whole | | |
-// | WriteFault(Screen) | | a_failed_write_leaves_a_front_of_the_screen | the same name |
-// | TooLarge(Topology) | | a_topology_above_its_limit_is_too_large | the same name |
-// | TooLarge(Trace) | a_trace_above_its_limit_is_too_large | | |
-// | BadCapture | pcapng::a_cut_block_is_refused_and_nothing_is_written | | |
+// | status | `chain` | `distill`, in `distilling` | `assign`, in `assigning` | `rehearse`, in `rehearsing` |
+// |---|---|---|---|---|
+// | Done | one_packet_leaves_at_tick_60 | two_stubs_are_walked_in | two_stubs_are_dealt_to_two_cores | two_packets_cross_two_stubs |
+// | BadWords | words_that_are_no_order_are_refused | the same for all commands | the same for all commands | the same for all commands |
+// | BadTopology | | a_topology_is_refused_by_its_first_fault | the same name | each_input_is_refused_by_its_first_fault |
+// | BadTrace | a_cut_record_is_refused_and_nothing_is_written | | | fronts_of_a_trace |
+// | BadPlan(TooManyPipes) | | a_mesh_of_1001000_pipes_is_refused | the same name | the same name |
+// | BadPlan(Changes) | | | | changes_that_are_refused |
+// | BadPlan(Assign) | | | | each_input_is_refused_by_its_first_fault |
+// | ReadFault(Topology) | | a_failed_read_of_the_topology_is_named | the same name | each_failed_call_is_named_by_its_role |
+// | ReadFault(Trace) | a_failed_read_is_named_by_its_role | | | each_failed_call_is_named_by_its_role |
+// | ReadFault(Directory) | | | | each_failed_call_is_named_by_its_role |
+// | WriteFault(Out) | a_failed_write_leaves_a_front_of_the_output_trace | | | each_failed_call_is_named_by_its_role |
+// | WriteFault(Report) | a_failed_write_of_the_report_leaves_the_output_trace_whole | | | each_failed_call_is_named_by_its_role |
+// | WriteFault(Screen) | | a_failed_write_leaves_a_front_of_the_screen | the same name | each_failed_call_is_named_by_its_role |
+// | TooLarge(Topology) | | a_topology_above_its_limit_is_too_large | the same name | inputs_above_their_limits_are_too_large |
+// | TooLarge(Trace) | a_trace_above_its_limit_is_too_large | | | inputs_above_their_limits_are_too_large |
+// | TooLarge(Directory) | | | | inputs_above_their_limits_are_too_large |
+// | BadCapture | pcapng::a_cut_block_is_refused_and_nothing_is_written | | | each_input_is_refused_by_its_first_fault |
 ghost use Rattle.std.specs.Prelude.{◌≡◌, ◌≤◌, false};
 ghost use Rattle.mn_edge.specs.declared.role.Role.{Role};
 ghost use Rattle.mn_edge.specs.MemoryHostView.{stream_of};
@@ -24,11 +28,13 @@ mod assigning;
 mod bursts;
 mod distilling;
 mod pcapng;
+mod rehearsing;
 
 use crate::plain::{plain, plain_within};
 use crate::read_limits::ReadLimits;
 use crate::status::Status;
-use mn_base::limits::{TOPOLOGY_BYTES_MAX, TRACE_BYTES_MAX};
+use core_loop::Tally;
+use mn_base::limits::{DIRECTORY_BYTES_MAX, TOPOLOGY_BYTES_MAX, TRACE_BYTES_MAX};
 use mn_edge::{Fail, MemoryHost, Op, RealHost, Role};
 use mn_words::{Opt, WordsFault};
 use pcap_io::PcapFault;
@@ -97,7 +103,7 @@ fn assert_writes(
 ) {
     let words = words_in(rt, line);
     let mut host = host(rt, trace, &[], 4_096, 4_096);
-    let status = plain(rt.alloc(), &words, &mut host);
+    let status = plain(rt.alloc(), &words, &mut host, &mut Tally::new());
     assert_eq!(rt; status, Status::Done);
     assert_eq!(rt; host.written_bytes(Role::Out), out);
     assert_eq!(rt; host.written_bytes(Role::Report), report.as_bytes());
@@ -108,14 +114,27 @@ fn capture(rt: &(impl Abort + AllocGlobal), packets: &[(u64, u32)]) -> Vec<u8> {
     let (header, _) = ONE_PACKET.split_at(24);
     let mut text = Vec::from_slice(rt.alloc(), header).expect(rt, "memory");
     for (time_ns, original) in packets {
-        let seconds = (*time_ns / 1_000_000_000).min(u64::from(u32::MAX)) as u32;
-        let fraction = (*time_ns % 1_000_000_000) as u32;
-        push_number(rt, &mut text, seconds);
-        push_number(rt, &mut text, fraction);
-        push_number(rt, &mut text, 0);
-        push_number(rt, &mut text, *original);
+        push_record(rt, &mut text, *time_ns, *original, &[]);
     }
     text
+}
+
+/// One more packet of a capture in ns: its time, its original length, and its captured bytes.
+fn push_record(
+    rt: &impl Abort,
+    text: &mut Vec<u8>,
+    time_ns: u64,
+    original: u32,
+    bytes: &[u8],
+) {
+    let seconds = (time_ns / 1_000_000_000).min(u64::from(u32::MAX)) as u32;
+    let fraction = (time_ns % 1_000_000_000) as u32;
+    let captured = (bytes.len() as u64).min(u64::from(u32::MAX)) as u32;
+    push_number(rt, text, seconds);
+    push_number(rt, text, fraction);
+    push_number(rt, text, captured);
+    push_number(rt, text, original);
+    text.extend_from_slice(bytes).expect(rt, "memory");
 }
 
 fn push_number(rt: &impl Abort, text: &mut Vec<u8>, number: u32) {
@@ -347,7 +366,7 @@ fn assert_stops(
 ) {
     let words = words_in(rt, line);
     let mut host = host(rt, trace, fails, 8, room);
-    assert_eq!(rt; plain(rt.alloc(), &words, &mut host), status);
+    assert_eq!(rt; plain(rt.alloc(), &words, &mut host, &mut Tally::new()), status);
     let out = host.written_bytes(Role::Out);
     assert_eq!(rt; out.len(), written);
     assert!(rt; ONE_PACKET_OUT.starts_with(out));
@@ -364,7 +383,7 @@ fn a_cut_record_is_refused_and_nothing_is_written(rt: HostRuntime) {
 #[test]
 fn words_that_are_no_order_are_refused(rt: HostRuntime) {
     let mut host = host(&rt, &ONE_PACKET, &[], 8, 4_096);
-    let status = plain(rt.alloc(), &[], &mut host);
+    let status = plain(rt.alloc(), &[], &mut host, &mut Tally::new());
     assert_eq!(rt; status, Status::BadWords(WordsFault::Command));
     let command = Status::BadWords(WordsFault::Command);
     assert_stops(&rt, "emulate", &ONE_PACKET, &[], 4_096, command, 0);
@@ -413,8 +432,9 @@ fn status_within(rt: &(impl Abort + AllocGlobal), limit: usize) -> Status
     let limits = ReadLimits {
         topology: TOPOLOGY_BYTES_MAX,
         trace: limit,
+        directory: DIRECTORY_BYTES_MAX,
     };
-    plain_within(rt.alloc(), &limits, &words, &mut host)
+    plain_within(rt.alloc(), &limits, &words, &mut host, &mut Tally::new())
 }
 
 #[test]
@@ -453,7 +473,7 @@ fn files_are_read_and_written(rt: HostRuntime) {
         "chain --trace chain_in.pcap --out chain_out.pcap --report chain.txt 8000000:5000:50:0";
     let words = words_in(&rt, line);
     let mut host = RealHost::new(rt);
-    let status = plain(rt.alloc(), &words, &mut host);
+    let status = plain(rt.alloc(), &words, &mut host, &mut Tally::new());
     assert_eq!(rt; status, Status::Done);
     let out = fs::read(&rt, "chain_out.pcap").expect(&rt, "the output trace");
     assert_eq!(rt; out.as_slice(), ONE_PACKET_OUT.as_slice());
@@ -466,6 +486,6 @@ fn a_missing_file_cannot_be_read(rt: HostRuntime) {
     let line = "chain --trace no_such_file.pcap --out o --report r 8000000:5000:50:0";
     let words = words_in(&rt, line);
     let mut host = RealHost::new(rt);
-    let status = plain(rt.alloc(), &words, &mut host);
+    let status = plain(rt.alloc(), &words, &mut host, &mut Tally::new());
     assert_eq!(rt; status, Status::ReadFault(Role::Trace));
 }

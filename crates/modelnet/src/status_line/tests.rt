@@ -1,8 +1,10 @@
 use crate::status::Status;
 use crate::status_line::status_line;
+use changes::ChangesFault;
 use gml_reader::{GmlFault, Item};
 use mn_edge::Role;
 use mn_words::{Opt, WordsFault};
+use ownership::AssignFault;
 use pcap_io::PcapFault;
 use plan::PlanFault;
 use std::alloc::Global;
@@ -138,12 +140,45 @@ modelnet: plan: 1001000 pipes
 }
 
 #[test]
+fn lines_of_directories(rt: HostRuntime) -> Result<(), Fail> {
+    let faults = [
+        PlanFault::Changes(ChangesFault::Head),
+        PlanFault::Changes(ChangesFault::Count),
+        PlanFault::Changes(ChangesFault::Line(8)),
+        PlanFault::Changes(ChangesFault::Range(9)),
+        PlanFault::Changes(ChangesFault::Order(10)),
+        PlanFault::Assign(AssignFault::Head),
+        PlanFault::Assign(AssignFault::Line(2)),
+        PlanFault::Assign(AssignFault::Core(3)),
+        PlanFault::Assign(AssignFault::Twice(4)),
+        PlanFault::Assign(AssignFault::Missing(5)),
+    ];
+    let lines = lines_of(rt.alloc(), &faults.map(Status::BadPlan))?;
+    let expected = "\
+modelnet: directory: bad head
+modelnet: directory: wrong number of lines
+modelnet: directory: bad line 8
+modelnet: directory: range in line 9
+modelnet: directory: order in line 10
+modelnet: directory: bad head
+modelnet: directory: bad line 2
+modelnet: directory: bad core in line 3
+modelnet: directory: second owner in line 4
+modelnet: directory: no owner of pipe 5
+";
+    assert_eq!(rt; lines.as_slice(), expected.as_bytes());
+    Ok(())
+}
+
+#[test]
 fn lines_of_roles_and_of_memory(rt: HostRuntime) -> Result<(), Fail> {
     let statuses = [
         Status::Done,
         Status::NoMemory,
         Status::ReadFault(Role::Topology),
         Status::ReadFault(Role::Trace),
+        Status::ReadFault(Role::Directory),
+        Status::TooLarge(Role::Topology),
         Status::TooLarge(Role::Trace),
         Status::TooLarge(Role::Directory),
         Status::WriteFault(Role::Out),
@@ -155,6 +190,8 @@ fn lines_of_roles_and_of_memory(rt: HostRuntime) -> Result<(), Fail> {
 modelnet: no memory
 modelnet: cannot read topology
 modelnet: cannot read trace
+modelnet: cannot read directory
+modelnet: topology is too large
 modelnet: trace is too large
 modelnet: directory is too large
 modelnet: cannot write out

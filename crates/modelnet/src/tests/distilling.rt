@@ -7,8 +7,9 @@ use super::words_in;
 use crate::plain::{plain, plain_within};
 use crate::read_limits::ReadLimits;
 use crate::status::Status;
+use core_loop::Tally;
 use gml_reader::{GmlFault, Item};
-use mn_base::limits::{TOPOLOGY_BYTES_MAX, TRACE_BYTES_MAX};
+use mn_base::limits::{DIRECTORY_BYTES_MAX, TOPOLOGY_BYTES_MAX, TRACE_BYTES_MAX};
 use mn_edge::{Fail, MemoryHost, Op, Role};
 use plan::PlanFault;
 use std::alloc::AllocError;
@@ -77,7 +78,7 @@ pub fn assert_prints(
 ) {
     let words = words_in(rt, line);
     let mut host = host(rt, topology, &[], 65_536, 4_096);
-    assert_eq!(rt; plain(rt.alloc(), &words, &mut host), status);
+    assert_eq!(rt; plain(rt.alloc(), &words, &mut host, &mut Tally::new()), status);
     assert_eq!(rt; host.written_bytes(Role::Screen), screen.as_bytes());
 }
 
@@ -178,7 +179,7 @@ pub fn assert_stops(
 ) {
     let words = words_in(rt, line);
     let mut host = host(rt, TWO_STUBS, fails, 8, room);
-    assert_eq!(rt; plain(rt.alloc(), &words, &mut host), status);
+    assert_eq!(rt; plain(rt.alloc(), &words, &mut host, &mut Tally::new()), status);
     let screen = host.written_bytes(Role::Screen);
     assert_eq!(rt; screen.len(), written);
     assert!(rt; whole.as_bytes().starts_with(screen));
@@ -236,8 +237,9 @@ pub fn status_within(rt: &(impl Abort + AllocGlobal), line: &str, limit: usize) 
     let limits = ReadLimits {
         topology: limit,
         trace: TRACE_BYTES_MAX,
+        directory: DIRECTORY_BYTES_MAX,
     };
-    plain_within(rt.alloc(), &limits, &words, &mut host)
+    plain_within(rt.alloc(), &limits, &words, &mut host, &mut Tally::new())
 }
 
 #[test]

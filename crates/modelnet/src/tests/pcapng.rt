@@ -18,7 +18,7 @@ const ONE_NG_PACKET: [u8; 84] = [
 ];
 
 /// The first bytes of that capture, where so many are there.
-fn first_bytes(rt: &(impl Abort + AllocGlobal), count: usize) -> Vec<u8> {
+pub fn first_bytes(rt: &(impl Abort + AllocGlobal), count: usize) -> Vec<u8> {
     let bytes = ONE_NG_PACKET.get(..count).expect(rt, "so many bytes");
     Vec::from_slice(rt.alloc(), bytes).expect(rt, "memory")
 }
