@@ -6,3 +6,4 @@ pub mod LinesRead
 pub mod Numbers
 pub mod Readings
 pub mod TheLaws
+pub mod Lengths

@@ -22,6 +22,12 @@ pub record IsReading (pipes : ℕ) (lines left : List (List ℕ)) (changes : Lis
 pub nothing_read : (pipes : ℕ) (lines : List (List ℕ)) → IsReading pipes lines lines []
 nothing_read pipes lines = record { before = []; split = refl; are = no_lines pipes; faults = refl }
 
+-- the next line has this number and stands behind this change, if there is one
+pub record IsNextLine (pipes n : ℕ) (lines left : List (List ℕ)) (line : List ℕ) (changes : List Change) (last : Option Change) : Type 0 where
+  pub reading : IsReading pipes lines (line ∷ left) changes
+  pub number : n ≡ pipes + 2 + length changes
+  pub last_is : last ≡ slice_get changes (length changes - 1)
+
 -- the fault of the next line, told by the changes
 next_fault : (pipes n : ℕ) (before : List (List ℕ)) (changes : List Change) (last : Option Change) (line : List ℕ)
     → AreChangeLines pipes before changes → n ≡ pipes + 2 + length changes → last ≡ slice_get changes (length changes - 1)
@@ -31,30 +37,33 @@ next_fault pipes n before changes last line are number is =
     ∙ ap (λ k. change_line_fault pipes k (last_change before) line) (sym number)
     ∙ ap (λ (o : Option Change). change_line_fault pipes n o line) (last_said before changes are.say ∙ sym is)
 
-pub one_read : (pipes n : ℕ) (lines left : List (List ℕ)) (line : List ℕ) (changes : List Change) (last : Option Change) (change : Change)
-    → IsReading pipes lines (line ∷ left) changes → n ≡ pipes + 2 + length changes → last ≡ slice_get changes (length changes - 1)
-    → change_of line ≡ Some change → change_line_fault pipes n last line ≡ None
-    → IsReading pipes lines left (changes ++ change ∷ [])
-one_read pipes n lines left line changes last change reading number is says none = record {
-  before = reading.before ++ line ∷ [];
-  split = reading.split ∙ sym (append_assoc reading.before (line ∷ []) left);
-  are =
-      push_line pipes reading.before changes line change reading.are says
-      (subst (λ (o : Option Change). Passes pipes o change) is (says_and_passes pipes n last line change says none));
-  faults =
+module _ (pipes n : ℕ) (lines left : List (List ℕ)) (line : List ℕ) (changes : List Change) (last : Option Change)
+    (next : IsNextLine pipes n lines left line changes last) where
+  -- the next line says a change and has no fault
+  pub one_read : (change : Change) → change_of line ≡ Some change → change_line_fault pipes n last line ≡ None
+      → IsReading pipes lines left (changes ++ change ∷ [])
+  one_read change says none =
+      let reading = next.reading in
+      record {
+        before = reading.before ++ line ∷ [];
+        split = reading.split ∙ sym (append_assoc reading.before (line ∷ []) left);
+        are =
+            push_line pipes reading.before changes line change reading.are says
+            (subst (λ (o : Option Change). Passes pipes o change) next.last_is (says_and_passes pipes n last line change says none));
+        faults =
+            reading.faults
+            ∙ ap (λ (o : Option ChangesFault). option_or o (first_line_fault (change_fault pipes) (reading.before ++ line ∷ []) left))
+            (next_fault pipes n reading.before changes last line reading.are next.number next.last_is ∙ none);
+      }
+
+  -- a fault of the next line is the first
+  pub first_fault_read : (fault : ChangesFault) → change_line_fault pipes n last line ≡ Some fault
+      → first_line_fault (change_fault pipes) [] lines ≡ Some fault
+  first_fault_read fault faulty =
+      let reading = next.reading in
       reading.faults
       ∙ ap (λ (o : Option ChangesFault). option_or o (first_line_fault (change_fault pipes) (reading.before ++ line ∷ []) left))
-      (next_fault pipes n reading.before changes last line reading.are number is ∙ none);
-}
-
-pub first_fault_read : (pipes n : ℕ) (lines left : List (List ℕ)) (line : List ℕ) (changes : List Change) (last : Option Change)
-    (fault : ChangesFault)
-    → IsReading pipes lines (line ∷ left) changes → n ≡ pipes + 2 + length changes → last ≡ slice_get changes (length changes - 1)
-    → change_line_fault pipes n last line ≡ Some fault → first_line_fault (change_fault pipes) [] lines ≡ Some fault
-first_fault_read pipes n lines left line changes last fault reading number is faulty =
-    reading.faults
-    ∙ ap (λ (o : Option ChangesFault). option_or o (first_line_fault (change_fault pipes) (reading.before ++ line ∷ []) left))
-    (next_fault pipes n reading.before changes last line reading.are number is ∙ faulty)
+      (next_fault pipes n reading.before changes last line reading.are next.number next.last_is ∙ faulty)
 
 pub all_read : (pipes : ℕ) (lines : List (List ℕ)) (changes : List Change) → IsReading pipes lines [] changes
     → AreChangeLines pipes lines changes

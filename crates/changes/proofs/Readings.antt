@@ -81,19 +81,25 @@ lines_fault pipes head body count same =
     rw (eq-eqb (length (head ∷ body)) (1 + pipes + count) (omega (arith, same)), one-add) refl
 
 -- ---- what the text says
+-- a text has a head line of these cores and pipes and so many changes, and as many lines behind it
+pub record IsHeaded (text : List ℕ) (cores pipes : ℕ) (head : List ℕ) (body : List (List ℕ)) (count : ℕ) : Type 0 where
+  pub lines : lines_of text ≡ head ∷ body
+  pub says : count_of cores pipes head ≡ Some count
+  pub whole : length body ≡ pipes + count
+
 pub second : (text : List ℕ) (cores pipes : ℕ) (head : List ℕ) (body : List (List ℕ)) (count : ℕ) (split : SplitView)
-    → lines_of text ≡ head ∷ body → count_of cores pipes head ≡ Some count → length body ≡ pipes + count
-    → AreChangeLines pipes (drop pipes body) split.changes
+    → IsHeaded text cores pipes head body count → AreChangeLines pipes (drop pipes body) split.changes
     → split.directory ≡ text_of_lines (directory_head cores pipes ∷ take pipes body)
     → IsSecond text cores pipes split
-second text cores pipes head body count split lines is same are directory =
-    let counts = counted cores pipes count head is in
+second text cores pipes head body count split headed are directory =
+    let counts = counted cores pipes count head headed.says in
+    let same = headed.whole in
     let left : length (drop pipes body) ≡ count = omega (arith, length-drop pipes body, same) in
     record {
       head = head;
       pipe_lines = take pipes body;
       change_lines = drop pipes body;
-      lines = lines ∙ ap (λ (ls : List (List ℕ)). head ∷ ls) (sym (take-append-drop pipes body));
+      lines = headed.lines ∙ ap (λ (ls : List (List ℕ)). head ∷ ls) (sym (take-append-drop pipes body));
       numbers = counts.numbers ∙ ap (λ n. Some (cores ∷ pipes ∷ n ∷ [])) (sym left);
       whole = length-take-le pipes body (omega (arith, same));
       few = subst (λ n. n ≤ CHANGES_MAX) (sym left) counts.few;

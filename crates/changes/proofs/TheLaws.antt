@@ -35,7 +35,7 @@ body_answered text cores pipes head body count is_of lines is same faults =
         let said = said_by pipes [] (drop pipes body) [] (no_lines pipes) none in
         let split : SplitView =
         record { directory = text_of_lines (directory_head cores pipes ∷ take pipes body); changes = said.changes } in
-        inl (split, rw is_of (second text cores pipes head body count split lines is same said.are refl))
+        inl (split, rw is_of (second text cores pipes head body count split (record { lines = lines; says = is; whole = same }) said.are refl))
 
 -- a text of the second version of these lines
 second_answered : (text : List ℕ) (cores pipes : ℕ) (lines : List (List ℕ)) → is_second text ≡ true → lines_of text ≡ lines

@@ -46,6 +46,7 @@ pub fn read_changes(
     requires few_cores { cores ≤ CORES_MAX }
     requires few_pipes { pipes ≤ PIPES_MAX }
     ensures found { IfOk result (λ split. SplitsTo text.now cores pipes split) }
+    ensures no_longer { IfOk result (λ split. length split.directory ≤ length text.now) }
     ensures fault { IfErr result (λ refusal. IfFault refusal (ChangesFirst text.now cores pipes)) }
     ensures only_split { (split : SplitView) → SplitsTo text.now cores pipes split → Gives split result }
     ensures only_fault { (fault : ChangesFault) → ChangesFirst text.now cores pipes fault → Refuses fault result }

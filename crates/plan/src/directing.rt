@@ -11,7 +11,6 @@ use crate::faults::PlanFault;
 use changes::{Change, read_changes};
 use distill::Distilled;
 use mn_base::Refusal;
-use mn_base::limits::DIRECTORY_BYTES_MAX;
 use ownership::{Directory, assign, read_directory};
 use std::alloc::Global;
 
@@ -75,14 +74,9 @@ fn by_text(
     let split = read_changes(alloc, text, cores, pipes).map_err(|e| e.map_fault(
         PlanFault::Changes,
     ))?;
-    let first_version = split.directory.as_slice();
-    // A text of the second version is longer than that of the first which it splits to, so this never comes.
-    if first_version.len() > DIRECTORY_BYTES_MAX {
-        return Err(Refusal::NoMemory);
-    }
-    let directory = read_directory(alloc, first_version, distilled, cores).map_err(|e| e.map_fault(
-        PlanFault::Assign,
-    ))?;
+    let directory = read_directory(alloc, split.directory.as_slice(), distilled, cores).map_err(
+        |e| e.map_fault(PlanFault::Assign),
+    )?;
     Ok(Directed {
         directory,
         changes: split.changes,

@@ -9,12 +9,15 @@ use Rattle.changes.proofs.reading.read_lines.Goals as goal
 pub returns-in-Err-clause-fault : goal.returns-in-Err-clause-fault
 returns-in-Err-clause-fault c =
     first_fault_read c.args.pipes c.lines.number (lines_of c.args.text.now) (lines_of c.split_line.result.1.now) c.split_line.result.0.now
-    c.lines.changes.items (option_copied c.last.result) c.in-Err.fault
-    (subst (λ (ls : List (List ℕ)). IsReading c.args.pipes (lines_of c.args.text.now) ls c.lines.changes.items) c.split_line.ensures.lines
-    c.lines.invariant.reading)
-    c.lines.invariant.number
-    (c.last.ensures.value ∙ ap (λ (cs : List Change). slice_get cs (length cs - 1)) c.as_slice.ensures.value)
-    c.in-Err.ensures
+    c.lines.changes.items (option_copied c.last.result)
+    (record {
+      reading =
+          subst (λ (ls : List (List ℕ)). IsReading c.args.pipes (lines_of c.args.text.now) ls c.lines.changes.items) c.split_line.ensures.lines
+          c.lines.invariant.reading;
+      number = c.lines.invariant.number;
+      last_is = c.last.ensures.value ∙ ap (λ (cs : List Change). slice_get cs (length cs - 1)) c.as_slice.ensures.value;
+    })
+    c.in-Err.fault c.in-Err.ensures
 
 pub lines-preserved : goal.lines-preserved
 lines-preserved c =
@@ -27,12 +30,15 @@ lines-preserved c =
           subst (λ (cs : List Change). IsReading c.args.pipes (lines_of c.args.text.now) (lines_of c.split_line.result.1.now) cs)
           (sym c.in_ok-push.ensures.items)
           (one_read c.args.pipes c.lines.number (lines_of c.args.text.now) (lines_of c.split_line.result.1.now) c.split_line.result.0.now
-          c.lines.changes.items (option_copied c.last.result) c.in-Ok.change
-          (subst (λ (ls : List (List ℕ)). IsReading c.args.pipes (lines_of c.args.text.now) ls c.lines.changes.items) c.split_line.ensures.lines
-          c.lines.invariant.reading)
-          c.lines.invariant.number
-          (c.last.ensures.value ∙ ap (λ (cs : List Change). slice_get cs (length cs - 1)) c.as_slice.ensures.value)
-          c.in-Ok.ensures.0 c.in-Ok.ensures.1);
+          c.lines.changes.items (option_copied c.last.result)
+          (record {
+            reading =
+                subst (λ (ls : List (List ℕ)). IsReading c.args.pipes (lines_of c.args.text.now) ls c.lines.changes.items)
+                c.split_line.ensures.lines c.lines.invariant.reading;
+            number = c.lines.invariant.number;
+            last_is = c.last.ensures.value ∙ ap (λ (cs : List Change). slice_get cs (length cs - 1)) c.as_slice.ensures.value;
+          })
+          c.in-Ok.change c.in-Ok.ensures.0 c.in-Ok.ensures.1);
       number = omega (arith, longer, c.lines.invariant.number);
       left = omega (arith, longer, lines, c.lines.invariant.left);
     }
