@@ -128,19 +128,22 @@ module _ (limits : ReadLimits) (order : RunView) where
   topology_refuses text (refusal.Fault fault) is = inr is
 
   -- it was read whole, and is refused
-  pub topology_refused : (old new : Host) (text : List ℕ) (refusal : Refusal GmlFault) → HasInput (topology_input limits order) text old new
-      → IfFault refusal (IsFirstFault text) → HasStopped (run_command limits order) old new (topology_refusal refusal)
-  topology_refused old new text refusal read first = record {
+  pub topology_refused : (old new : Host) (text bytes : List ℕ) (refusal : Refusal GmlFault)
+      → HasInput (topology_input limits order) text old new → bytes ≡ text
+      → IfFault refusal (IsFirstFault bytes) → HasStopped (run_command limits order) old new (topology_refusal refusal)
+  topology_refused old new text bytes refusal read same first = record {
     early = topology_is_early refusal;
     answered = refused (run_command limits order) ((topology_input limits order, text) ∷ [])
         (trace_input limits order ∷ directory_inputs limits order.directory) (topology_refusal refusal) old new (run_refusals order)
-        (topology_was_read old new text read) (topology_refuses text refusal first);
+        (topology_was_read old new text read)
+        (topology_refuses text refusal (subst (λ t. IfFault refusal (IsFirstFault t)) same first));
   }
 
   -- it was read whole, and is accepted
-  pub has_topology : (old new : Host) (text : List ℕ) (topology : TopologyView) → HasInput (topology_input limits order) text old new
-      → Reads text topology → HasTopology limits order topology old new
-  has_topology old new text topology read reads = record {
+  pub has_topology : (old new : Host) (text bytes : List ℕ) (topology : TopologyView)
+      → HasInput (topology_input limits order) text old new → bytes ≡ text
+      → Reads bytes topology → HasTopology limits order topology old new
+  has_topology old new text bytes topology read same says = let reads = subst (λ t. Reads t topology) same says in record {
     text = text;
     reads = reads;
     so_far = accepted (run_command limits order) ((topology_input limits order, text) ∷ [])
@@ -180,25 +183,26 @@ module _ (limits : ReadLimits) (order : RunView) where
   trace_refuses topology text (refusal.Fault (Ng fault)) is = inr is
 
   -- it was read whole, and is refused
-  pub trace_refused : (old mid new : Host) (topology : TopologyView) (text : List ℕ) (refusal : Refusal CaptureFault)
-      → HasTopology limits order topology old mid → HasInput (trace_input limits order) text mid new
-      → IfFault refusal (CaptureFirst text) → HasStopped (run_command limits order) old new (trace_refusal refusal)
-  trace_refused old mid new topology text refusal has read first = record {
+  pub trace_refused : (old mid new : Host) (topology : TopologyView) (text bytes : List ℕ) (refusal : Refusal CaptureFault)
+      → HasTopology limits order topology old mid → HasInput (trace_input limits order) text mid new → bytes ≡ text
+      → IfFault refusal (CaptureFirst bytes) → HasStopped (run_command limits order) old new (trace_refusal refusal)
+  trace_refused old mid new topology text bytes refusal has read same first = record {
     early = trace_is_early refusal;
     answered = refused (run_command limits order) (two_read limits order has.text text) (directory_inputs limits order.directory)
         (trace_refusal refusal) old new (run_refusals order)
-        (trace_was_read old mid new topology text has read) (trace_refuses has.text text refusal first);
+        (trace_was_read old mid new topology text has read)
+        (trace_refuses has.text text refusal (subst (λ t. IfFault refusal (CaptureFirst t)) same first));
   }
 
   -- it was read whole, and says a trace
-  pub has_trace : (old mid new : Host) (topology : TopologyView) (trace : Capture) (text : List ℕ)
-      → HasTopology limits order topology old mid → HasInput (trace_input limits order) text mid new
-      → SaysTrace text trace → HasTrace limits order topology trace old new
-  has_trace old mid new topology trace text has read says = record {
+  pub has_trace : (old mid new : Host) (topology : TopologyView) (trace : Capture) (text bytes : List ℕ)
+      → HasTopology limits order topology old mid → HasInput (trace_input limits order) text mid new → bytes ≡ text
+      → SaysTrace bytes trace → HasTrace limits order topology trace old new
+  has_trace old mid new topology trace text bytes has read same says = record {
     text = has.text;
     trace_text = text;
     reads = has.reads;
-    says = says;
+    says = subst (λ t. SaysTrace t trace) same says;
     so_far = trace_was_read old mid new topology text has read;
   }
 

@@ -110,7 +110,7 @@ module _ (limits : ReadLimits) (order : RunView) where
       → WritesOutput (output Out name) out (mid Out) (new Out) (Err status) → Others Out mid new
       → Answered (run_command limits order) old new status
   out_stops out report cluster old mid new status name has named own others =
-      stops_writing (run_command limits order) has.plan.reads [] the_out order (the_report order ∷ screen_outputs order.cluster_report)
+      stops_writing (run_command limits order) has.plan.reads [] (the_out order) (the_report order ∷ screen_outputs order.cluster_report)
       out (report ∷ reports_of cluster) status old mid new
       (texts_are_next out report cluster old mid has) (out_is_unread has.plan.reads has.plan.inputs) tt
       (subst (λ n. WritesOutput (output Out n) out (mid Out) (new Out) (Err status)) named own) others
@@ -121,7 +121,7 @@ module _ (limits : ReadLimits) (order : RunView) where
       (the_report order ∷ screen_outputs order.cluster_report) (report ∷ reports_of cluster) old new
   report_is_next out report cluster old mid new has =
       let reads = has.texts.plan.reads in
-      has_written (run_command limits order) reads [] the_out order (the_report order ∷ screen_outputs order.cluster_report)
+      has_written (run_command limits order) reads [] (the_out order) (the_report order ∷ screen_outputs order.cluster_report)
       out (report ∷ reports_of cluster) old mid new
       (texts_are_next out report cluster old mid has.texts) (out_is_unread reads has.texts.plan.inputs) tt
       (subst (λ n. WritesOutput (output Out n) out (mid Out) (new Out) (Ok tt)) has.named has.own) has.others
@@ -133,7 +133,7 @@ module _ (limits : ReadLimits) (order : RunView) where
       → Answered (run_command limits order) old new status
   report_stops out report cluster old first second new status name bytes has named same own others =
       let reads = has.texts.plan.reads in
-      stops_writing (run_command limits order) reads ((the_out order, out) ∷ []) the_report order (screen_outputs order.cluster_report)
+      stops_writing (run_command limits order) reads ((the_out order, out) ∷ []) (the_report order) (screen_outputs order.cluster_report)
       report (reports_of cluster) status old second new
       (report_is_next out report cluster old first second has) (report_is_unread reads has.texts.plan.inputs) (report_apart, tt)
       (subst (λ n. WritesOutput (output Report n) report (second Report) (new Report) (Err status)) named
@@ -145,7 +145,7 @@ module _ (limits : ReadLimits) (order : RunView) where
       (screen_outputs order.cluster_report) (reports_of cluster) old new
   screen_is_next out report cluster old first second new has =
       let reads = has.so_far.texts.plan.reads in
-      has_written (run_command limits order) reads ((the_out order, out) ∷ []) the_report order (screen_outputs order.cluster_report)
+      has_written (run_command limits order) reads ((the_out order, out) ∷ []) (the_report order) (screen_outputs order.cluster_report)
       report (reports_of cluster) old second new
       (report_is_next out report cluster old first second has.so_far) (report_is_unread reads has.so_far.texts.plan.inputs)
       (report_apart, tt)

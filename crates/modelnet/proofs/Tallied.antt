@@ -57,7 +57,7 @@ stay_read : (reads : ReadInputs) (old mid new : Host)
 stay_read [] old mid new others out report screen are = tt
 stay_read (r ∷ reads) old mid new others out report screen are =
     let same : new r.0.role ≡ mid r.0.role =
-        others r.0.role (λ is. out.0 (sym is)) (λ is. report.0 (sym is)) (λ is. screen.0 (sym is)) in (
+    others r.0.role (λ is. out.0 (sym is)) (λ is. report.0 (sym is)) (λ is. screen.0 (sym is)) in (
       subst (λ part. WasRead r.0.name r.1 (old r.0.role) part) (sym same) are.0,
       are.1,
       stay_read reads old mid new others out.1 report.1 screen.1 are.2,

@@ -79,7 +79,7 @@ fn read_trace<H: Host>(
     requires limits { AreWithinUsual limits.now }
     ensures read { (start : Host) (topology : TopologyView) → HasTopology limits.now order.now topology start (H.part host.old)
         → MatchResult result (λ trace. HasTrace limits.now order.now topology trace start (H.part host.new))
-            (HasStopped (run_command limits.now order.now) start (H.part host.new)) }
+        (HasStopped (run_command limits.now order.now) start (H.part host.new)) }
     ensures times { IfOk result (λ trace. All (λ packet. IsRecordTime packet.time_ns) trace.packets) }
     ensures others { (other : Role) → other ≢ input.Trace → H.part host.new other ≡ H.part host.old other }
 {
@@ -101,7 +101,7 @@ fn read_directory<H: Host>(
     ensures read { (start : Host) (topology : TopologyView) (trace : Capture)
         → HasTrace limits.now order.now topology trace start (H.part host.old)
         → MatchResult result (λ text. HasInputs limits.now order.now topology trace text start (H.part host.new))
-            (HasStopped (run_command limits.now order.now) start (H.part host.new)) }
+        (HasStopped (run_command limits.now order.now) start (H.part host.new)) }
     ensures few { IfOk result (λ text. ForSome text (λ bytes. length bytes ≤ DIRECTORY_BYTES_MAX)) }
 {
     match &order.directory {

@@ -120,13 +120,7 @@ fn capture(rt: &(impl Abort + AllocGlobal), packets: &[(u64, u32)]) -> Vec<u8> {
 }
 
 /// One more packet of a capture in ns: its time, its original length, and its captured bytes.
-fn push_record(
-    rt: &impl Abort,
-    text: &mut Vec<u8>,
-    time_ns: u64,
-    original: u32,
-    bytes: &[u8],
-) {
+fn push_record(rt: &impl Abort, text: &mut Vec<u8>, time_ns: u64, original: u32, bytes: &[u8]) {
     let seconds = (time_ns / 1_000_000_000).min(u64::from(u32::MAX)) as u32;
     let fraction = (time_ns % 1_000_000_000) as u32;
     let captured = (bytes.len() as u64).min(u64::from(u32::MAX)) as u32;
@@ -366,7 +360,10 @@ fn assert_stops(
 ) {
     let words = words_in(rt, line);
     let mut host = host(rt, trace, fails, 8, room);
-    assert_eq!(rt; plain(rt.alloc(), &words, &mut host, &mut Tally::new()), status);
+    assert_eq!(rt;
+        plain(rt.alloc(), &words, &mut host, &mut Tally::new()),
+        status
+    );
     let out = host.written_bytes(Role::Out);
     assert_eq!(rt; out.len(), written);
     assert!(rt; ONE_PACKET_OUT.starts_with(out));

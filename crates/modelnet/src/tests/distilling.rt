@@ -78,7 +78,10 @@ pub fn assert_prints(
 ) {
     let words = words_in(rt, line);
     let mut host = host(rt, topology, &[], 65_536, 4_096);
-    assert_eq!(rt; plain(rt.alloc(), &words, &mut host, &mut Tally::new()), status);
+    assert_eq!(rt;
+        plain(rt.alloc(), &words, &mut host, &mut Tally::new()),
+        status
+    );
     assert_eq!(rt; host.written_bytes(Role::Screen), screen.as_bytes());
 }
 
@@ -179,7 +182,10 @@ pub fn assert_stops(
 ) {
     let words = words_in(rt, line);
     let mut host = host(rt, TWO_STUBS, fails, 8, room);
-    assert_eq!(rt; plain(rt.alloc(), &words, &mut host, &mut Tally::new()), status);
+    assert_eq!(rt;
+        plain(rt.alloc(), &words, &mut host, &mut Tally::new()),
+        status
+    );
     let screen = host.written_bytes(Role::Screen);
     assert_eq!(rt; screen.len(), written);
     assert!(rt; whole.as_bytes().starts_with(screen));

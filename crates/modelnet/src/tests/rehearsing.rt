@@ -82,12 +82,7 @@ fn assert_rehearses(
 }
 
 /// Runs a command line that is refused: nothing is written or counted.
-fn assert_refused(
-    rt: &(impl Abort + AllocGlobal),
-    line: &str,
-    inputs: &Inputs,
-    status: Status,
-) {
+fn assert_refused(rt: &(impl Abort + AllocGlobal), line: &str, inputs: &Inputs, status: Status) {
     let words = words_in(rt, line);
     let mut host = host(rt, inputs, &[], 65_536);
     let mut tally = Tally::new();
@@ -242,8 +237,7 @@ const TWO_STUBS_CROSSED: Inputs = Inputs {
     directory: TWO_STUBS_ON_TWO_CORES,
 };
 
-const CROSS: &str =
-    "rehearse --topology g --trace t --out o --report r --mode walk:1 --cores 2";
+const CROSS: &str = "rehearse --topology g --trace t --out o --report r --mode walk:1 --cores 2";
 
 const CROSS_AND_TELL: &str =
     "rehearse --topology g --trace t --out o --report r --mode walk:1 --cores 2 \
@@ -281,7 +275,9 @@ fn drawn_orders_change_nothing(rt: HostRuntime) {
         tally: "Tally { cores: 2, windows: 4, visits: 6 }",
     };
     for order in 1u64..4 {
-        let line = format!(in rt.alloc(); "{CROSS} --order {order} --turns 500").expect(&rt, "memory");
+        let line = format!(in rt.alloc(); "{CROSS} --order {order} --turns 500").expect(
+            &rt, "memory",
+        );
         assert_rehearses(&rt, line.as_str(), &TWO_STUBS_CROSSED, &told);
     }
 }
@@ -350,19 +346,15 @@ fn two_packets_of_two_cores_meet_in_a_pipe_of_a_third(rt: HostRuntime) {
         tally: "Tally { cores: 3, windows: 6, visits: 4 }",
     };
     for order in 0u64..8 {
-        let line =
-            format!(in rt.alloc(); "{MEET} --cluster-report yes --order {order} --turns 20").expect(&rt, "memory");
+        let line = format!(in rt.alloc();
+            "{MEET} --cluster-report yes --order {order} --turns 20"
+        ).expect(&rt, "memory");
         assert_rehearses(&rt, line.as_str(), &inputs, &told);
     }
 }
 
 /// An Ethernet frame of so many bytes: its kind, and what it carries, padded with zeros.
-fn frame(
-    rt: &(impl Abort + AllocGlobal),
-    size: usize,
-    kind: [u8; 2],
-    carried: &[u8],
-) -> Vec<u8> {
+fn frame(rt: &(impl Abort + AllocGlobal), size: usize, kind: [u8; 2], carried: &[u8]) -> Vec<u8> {
     let mut bytes = Vec::from_slice(rt.alloc(), &[0; 12]).expect(rt, "memory");
     bytes.extend_from_slice(&kind).expect(rt, "memory");
     bytes.extend_from_slice(carried).expect(rt, "memory");
@@ -593,7 +585,8 @@ fn star_with_a_change(
     pipe: u32,
     latency_us: u32,
 ) -> String {
-    let text = format!(in rt.alloc(); "modelnet-directory 2 cores 3 pipes 6 changes {changes}
+    let text = format!(in rt.alloc();
+        "modelnet-directory 2 cores 3 pipes 6 changes {changes}
 pipe 0 core 0
 pipe 1 core 0
 pipe 2 core 1
@@ -601,7 +594,8 @@ pipe 3 core 1
 pipe 4 core 2
 pipe 5 core 2
 change tick 1000 pipe {pipe} bps 8000000 us {latency_us} queue 50 ppm 0
-");
+"
+    );
     text.expect(rt, "memory")
 }
 
@@ -659,8 +653,18 @@ fn each_input_is_refused_by_its_first_fault(rt: HostRuntime) {
     let of_three = "modelnet-directory 1 cores 3 pipes 6";
     let head = PlanFault::Assign(AssignFault::Head);
     for (topology, trace, directory, status) in [
-        ("graph [ node [ ] ]", "".as_bytes(), "", Status::BadTopology(no_id)),
-        (STAR, cut.as_slice(), "", Status::BadCapture(NgFault::NoInterface)),
+        (
+            "graph [ node [ ] ]",
+            "".as_bytes(),
+            "",
+            Status::BadTopology(no_id),
+        ),
+        (
+            STAR,
+            cut.as_slice(),
+            "",
+            Status::BadCapture(NgFault::NoInterface),
+        ),
         (STAR, &TWO_PACKETS, of_three, Status::BadPlan(head)),
     ] {
         let inputs = Inputs {
@@ -805,9 +809,15 @@ fn inputs_above_their_limits_are_too_large(rt: HostRuntime) {
     };
     assert_eq!(rt; status_within(&rt, &limits), Status::Done);
     limits.directory = 8;
-    assert_eq!(rt; status_within(&rt, &limits), Status::TooLarge(Role::Directory));
+    assert_eq!(rt;
+        status_within(&rt, &limits),
+        Status::TooLarge(Role::Directory)
+    );
     limits.trace = 95;
     assert_eq!(rt; status_within(&rt, &limits), Status::TooLarge(Role::Trace));
     limits.topology = 8;
-    assert_eq!(rt; status_within(&rt, &limits), Status::TooLarge(Role::Topology));
+    assert_eq!(rt;
+        status_within(&rt, &limits),
+        Status::TooLarge(Role::Topology)
+    );
 }

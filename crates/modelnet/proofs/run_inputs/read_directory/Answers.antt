@@ -9,15 +9,15 @@ returns-in-None-clause-read g c =
 
 pub returns-in_err-text-in-Some-clause-read : goal.returns-in_err-text-in-Some-clause-read
 returns-in_err-text-in-Some-clause-read g c =
-    let is : c.from_residual.result ≡ Err c.in_err-text.field-0.0 = search rules in
+    let is : c.from_residual.result ≡ Err c.in_err-text-in-Some.field-0.0 = search rules in
     let named : c.args.order.now.directory ≡ Some c.as_str-name.result.now = search rules in
     λ start topology trace has.
-        rw is (directory_stops c.args.limits.now c.args.order.now start (g.H.Host.part c.args.host.now) (g.H.Host.part c.read_input.new.host)
-        topology trace c.in_err-text.field-0.0 c.as_str-name.result.now has named c.in_err-text.ensures.own c.in_err-text.ensures.others)
+    rw is (directory_stops c.args.limits.now c.args.order.now start (g.H.Host.part c.args.host.now) (g.H.Host.part c.read_input.new.host)
+    topology trace c.in_err-text-in-Some.field-0.0 c.as_str-name.result.now has named c.in_err-text-in-Some.ensures.own c.in_err-text-in-Some.ensures.others)
 
 pub returns-in_ok-text-in-Some-clause-read : goal.returns-in_ok-text-in-Some-clause-read
 returns-in_ok-text-in-Some-clause-read g c =
     let named : c.args.order.now.directory ≡ Some c.as_str-name.result.now = search rules in
     λ start topology trace has.
-        has_directory c.args.limits.now c.args.order.now start (g.H.Host.part c.args.host.now) (g.H.Host.part c.read_input.new.host)
-        topology trace c.as_str-name.result.now c.in_ok-text.text has named c.in_ok-text.ensures.own c.in_ok-text.ensures.others
+    has_directory c.args.limits.now c.args.order.now start (g.H.Host.part c.args.host.now) (g.H.Host.part c.read_input.new.host)
+    topology trace c.as_str-name.result.now c.in_ok-text-in-Some.text has named c.in_ok-text-in-Some.ensures.own c.in_ok-text-in-Some.ensures.others

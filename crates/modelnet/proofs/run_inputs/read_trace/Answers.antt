@@ -8,33 +8,33 @@ pub returns-in_err-text-clause-read : goal.returns-in_err-text-clause-read
 returns-in_err-text-clause-read g c =
     let is : c.from_residual.result ≡ Err c.in_err-text.field-0.0 = search rules in
     λ start topology has.
-        rw is (trace_stops c.args.limits.now c.args.order.now start (g.H.Host.part c.args.host.now) (g.H.Host.part c.read_input.new.host)
-        topology c.in_err-text.field-0.0 c.as_str-name.result.now has
-        (c.as_str-name.ensures.lent ∙ ap (λ (o : RunView). o.trace) c.order.view_is) c.in_err-text.ensures.own c.in_err-text.ensures.others)
+    rw is (trace_stops c.args.limits.now c.args.order.now start (g.H.Host.part c.args.host.now) (g.H.Host.part c.read_input.new.host)
+    topology c.in_err-text.field-0.0 c.as_str-name.result.now has
+    (c.as_str-name.ensures.lent ∙ ap (λ (o : RunView). o.trace) c.order.view_is) c.in_err-text.ensures.own c.in_err-text.ensures.others)
 
 pub returns-in_err-trace-clause-read : goal.returns-in_err-trace-clause-read
 returns-in_err-trace-clause-read g c =
     let is : c.from_residual-in_err-trace.result ≡ Err (trace_refusal c.in_err-trace.field-0.0) = search rules in
     λ start topology has.
-        rw is (trace_refused c.args.limits.now c.args.order.now start (g.H.Host.part c.args.host.now) (g.H.Host.part c.read_input.new.host)
-        topology c.in_ok-text.text c.in_err-trace.field-0.0 has
-        (record {
-          name = c.as_str-name.result.now;
-          named = c.as_str-name.ensures.lent ∙ ap (λ (o : RunView). o.trace) c.order.view_is;
-          own = c.in_ok-text.ensures.own;
-          others = c.in_ok-text.ensures.others;
-        })
-        c.in_err-trace.ensures.fault)
+    rw is (trace_refused c.args.limits.now c.args.order.now start (g.H.Host.part c.args.host.now) (g.H.Host.part c.read_input.new.host)
+    topology c.in_ok-text.text c.as_slice.result.now c.in_err-trace.field-0.0 has
+    (record {
+      name = c.as_str-name.result.now;
+      named = c.as_str-name.ensures.lent ∙ ap (λ (o : RunView). o.trace) c.order.view_is;
+      own = c.in_ok-text.ensures.own;
+      others = c.in_ok-text.ensures.others;
+    })
+    c.as_slice.ensures.lent c.in_err-trace.ensures.fault)
 
 pub returns-clause-read : goal.returns-clause-read
 returns-clause-read g c =
     λ start topology has.
-        has_trace c.args.limits.now c.args.order.now start (g.H.Host.part c.args.host.now) (g.H.Host.part c.read_input.new.host)
-        topology c.in_ok-trace.trace c.in_ok-text.text has
-        (record {
-          name = c.as_str-name.result.now;
-          named = c.as_str-name.ensures.lent ∙ ap (λ (o : RunView). o.trace) c.order.view_is;
-          own = c.in_ok-text.ensures.own;
-          others = c.in_ok-text.ensures.others;
-        })
-        c.in_ok-trace.ensures.found
+    has_trace c.args.limits.now c.args.order.now start (g.H.Host.part c.args.host.now) (g.H.Host.part c.read_input.new.host)
+    topology c.in_ok-trace.trace c.in_ok-text.text c.as_slice.result.now has
+    (record {
+      name = c.as_str-name.result.now;
+      named = c.as_str-name.ensures.lent ∙ ap (λ (o : RunView). o.trace) c.order.view_is;
+      own = c.in_ok-text.ensures.own;
+      others = c.in_ok-text.ensures.others;
+    })
+    c.as_slice.ensures.lent c.in_ok-trace.ensures.found
