@@ -1,9 +1,9 @@
 // Out of memory may stand in the place of any answer, and no contract can rule that out. So each status that a command has
 // comes in a test here, with memory:
 //
-// | status | `chain` | `distill`, in `distilling` | `assign`, in `assigning` | `rehearse`, in `rehearsing` |
+// | status | `chain` | `distill`, in `distilling` | `assign`, in `assigning` | `rehearse`, in `refusing` |
 // |---|---|---|---|---|
-// | Done | one_packet_leaves_at_tick_60 | two_stubs_are_walked_in | two_stubs_are_dealt_to_two_cores | two_packets_cross_two_stubs |
+// | Done | one_packet_leaves_at_tick_60 | two_stubs_are_walked_in | two_stubs_are_dealt_to_two_cores | rehearsing::two_packets_cross_two_stubs |
 // | BadWords | words_that_are_no_order_are_refused | the same for all commands | the same for all commands | the same for all commands |
 // | BadTopology | | a_topology_is_refused_by_its_first_fault | the same name | each_input_is_refused_by_its_first_fault |
 // | BadTrace | a_cut_record_is_refused_and_nothing_is_written | | | fronts_of_a_trace |
@@ -28,6 +28,7 @@ mod assigning;
 mod bursts;
 mod distilling;
 mod pcapng;
+mod refusing;
 mod rehearsing;
 
 use crate::plain::{plain, plain_within};

@@ -1,35 +1,22 @@
-//! `rehearse`: what leaves a topology, with its report, its cluster report and what is counted, and each answer that may come in
-//! their place.
+//! `rehearse`: what leaves a topology, with its report, its cluster report and what is counted.
 ghost use Rattle.std.specs.Prelude.{◌≡◌, ◌≤◌, false};
 ghost use Rattle.mn_edge.specs.declared.role.Role.{Role};
 ghost use Rattle.mn_edge.specs.MemoryHostView.{stream_of};
-ghost use Rattle.modelnet.specs.TheCommands.{AreWithinUsual};
 
-use super::distilling::fan_of_routers;
-use super::pcapng::first_bytes;
 use super::{ONE_PACKET, push_number, push_record, words_in};
-use crate::plain::{plain, plain_within};
-use crate::read_limits::ReadLimits;
+use crate::plain::plain;
 use crate::status::Status;
-use changes::ChangesFault;
 use core_loop::Tally;
-use gml_reader::{GmlFault, Item};
-use mn_base::limits::{TOPOLOGY_BYTES_MAX, TRACE_BYTES_MAX};
-use mn_edge::{Fail, MemoryHost, Op, Role};
-use ownership::AssignFault;
-use pcap_io::PcapFault;
-use pcapng_in::NgFault;
-use plan::PlanFault;
+use mn_edge::{Fail, MemoryHost, Role};
 use std::alloc::AllocError;
 use std::process::Abort;
-use topo::Key;
 
 /// What a run reads.
 #[derive(Drop)]
-struct Inputs<'a> {
-    topology: &'a str,
-    trace: &'a [u8],
-    directory: &'a str,
+pub struct Inputs<'a> {
+    pub topology: &'a str,
+    pub trace: &'a [u8],
+    pub directory: &'a str,
 }
 
 /// What it writes, and what stands in a new tally then.
@@ -41,7 +28,7 @@ struct Outputs<'a> {
     tally: &'a str,
 }
 
-fn host(
+pub fn host(
     rt: &(impl Abort + AllocGlobal),
     inputs: &Inputs,
     fails: &[Fail],
@@ -81,19 +68,6 @@ fn assert_rehearses(
     assert_eq!(rt; told.as_str(), outputs.tally);
 }
 
-/// Runs a command line that is refused: nothing is written or counted.
-fn assert_refused(rt: &(impl Abort + AllocGlobal), line: &str, inputs: &Inputs, status: Status) {
-    let words = words_in(rt, line);
-    let mut host = host(rt, inputs, &[], 65_536);
-    let mut tally = Tally::new();
-    assert_eq!(rt; plain(rt.alloc(), &words, &mut host, &mut tally), status);
-    for role in [Role::Out, Role::Report, Role::Screen] {
-        assert_eq!(rt; host.written_bytes(role).len(), 0);
-    }
-    let told = format!(in rt.alloc(); "{tally:?}").expect(rt, "memory");
-    assert_eq!(rt; told.as_str(), "Tally { cores: 0, windows: 0, visits: 0 }");
-}
-
 /// A capture in ns of this link type; each packet is (time in ns, original length, captured bytes).
 fn captured(
     rt: &(impl Abort + AllocGlobal),
@@ -119,7 +93,7 @@ fn header(from: (u8, u8), to: (u8, u8, u8)) -> [u8; 20] {
 }
 
 /// Two stubs of two nodes each, joined by a slow link between routers, as NetworkX writes it.
-const TWO_STUBS: &str = "graph [
+pub const TWO_STUBS: &str = "graph [
   name \"two stubs\"
   node [
     id 0
@@ -185,7 +159,7 @@ const TWO_STUBS: &str = "graph [
 ";
 
 /// A packet of 1,250 bytes from each node of the one stub to a node of the other, both at once.
-const TWO_PACKETS: [u8; 96] = [
+pub const TWO_PACKETS: [u8; 96] = [
     0x4d, 0x3c, 0xb2, 0xa1, 2, 0, 4, 0, 0, 0, 0, 0, 0, 0, 0, 0, 0, 0, 4, 0, 0x65, 0, 0, 0, //
     0, 0, 0, 0, 0, 0, 0, 0, 0x14, 0, 0, 0, 0xe2, 4, 0, 0, //
     0x45, 0, 4, 0xe2, 0, 0, 0, 0, 0x40, 0x11, 0, 0, 10, 0, 0, 1, 10, 0, 1, 1, //
@@ -194,7 +168,7 @@ const TWO_PACKETS: [u8; 96] = [
 ];
 
 /// They leave at ticks 290 and 340, that is, after 29,000,000 and 34,000,000 ns.
-const TWO_PACKETS_OUT: [u8; 96] = [
+pub const TWO_PACKETS_OUT: [u8; 96] = [
     0x4d, 0x3c, 0xb2, 0xa1, 2, 0, 4, 0, 0, 0, 0, 0, 0, 0, 0, 0, 0, 0, 4, 0, 0x65, 0, 0, 0, //
     0, 0, 0, 0, 0x40, 0x81, 0xba, 1, 0x14, 0, 0, 0, 0xe2, 4, 0, 0, //
     0x45, 0, 4, 0xe2, 0, 0, 0, 0, 0x40, 0x11, 0, 0, 10, 0, 0, 1, 10, 0, 1, 1, //
@@ -202,7 +176,7 @@ const TWO_PACKETS_OUT: [u8; 96] = [
     0x45, 0, 4, 0xe2, 0, 0, 0, 0, 0x40, 0x11, 0, 0, 10, 0, 0, 2, 10, 0, 1, 2,
 ];
 
-const TWO_PACKETS_REPORT: &str = "modelnet report 1
+pub const TWO_PACKETS_REPORT: &str = "modelnet report 1
 packets 2 bound 2 unbound 0 left 2 dropped 0
 pipe 0 passed 1 lost 0 full 0
 pipe 2 passed 1 lost 0 full 0
@@ -211,14 +185,14 @@ pipe 6 passed 1 lost 0 full 0
 pipe 8 passed 2 lost 0 full 0
 ";
 
-const TWO_CORES: &str = "modelnet cluster 1
+pub const TWO_CORES: &str = "modelnet cluster 1
 cores 2 lookahead 200 windows 2
 core 0 pipes 5 entered 2 visits 4 arrivals 2 settles 0
 core 1 pipes 5 entered 0 visits 2 arrivals 0 settles 2
 ";
 
 /// The owners that `assign` gives, too.
-const TWO_STUBS_ON_TWO_CORES: &str = "modelnet-directory 1 cores 2 pipes 10
+pub const TWO_STUBS_ON_TWO_CORES: &str = "modelnet-directory 1 cores 2 pipes 10
 pipe 0 core 0
 pipe 1 core 0
 pipe 2 core 0
@@ -231,15 +205,16 @@ pipe 8 core 0
 pipe 9 core 1
 ";
 
-const TWO_STUBS_CROSSED: Inputs = Inputs {
+pub const TWO_STUBS_CROSSED: Inputs = Inputs {
     topology: TWO_STUBS,
     trace: &TWO_PACKETS,
     directory: TWO_STUBS_ON_TWO_CORES,
 };
 
-const CROSS: &str = "rehearse --topology g --trace t --out o --report r --mode walk:1 --cores 2";
+pub const CROSS: &str =
+    "rehearse --topology g --trace t --out o --report r --mode walk:1 --cores 2";
 
-const CROSS_AND_TELL: &str =
+pub const CROSS_AND_TELL: &str =
     "rehearse --topology g --trace t --out o --report r --mode walk:1 --cores 2 \
     --directory d --cluster-report yes";
 
@@ -283,7 +258,7 @@ fn drawn_orders_change_nothing(rt: HostRuntime) {
 }
 
 /// Three edge nodes round one router.
-const STAR: &str = "graph [
+pub const STAR: &str = "graph [
   node [ id 0 address \"10.0.0.1\" ]
   node [ id 1 address \"10.0.0.2\" ]
   node [ id 2 ]
@@ -304,7 +279,7 @@ pipe 5 core 2
 ";
 
 /// Two packets of 1,000 bytes to the third node, one from each other node: at these times.
-fn to_the_third(rt: &(impl Abort + AllocGlobal), first_ns: u64, second_ns: u64) -> Vec<u8> {
+pub fn to_the_third(rt: &(impl Abort + AllocGlobal), first_ns: u64, second_ns: u64) -> Vec<u8> {
     let first = header((0, 1), (0, 0, 3));
     let second = header((0, 2), (0, 0, 3));
     captured(
@@ -328,7 +303,7 @@ core 1 pipes 2 entered 1 visits 1 arrivals 1 settles 0
 core 2 pipes 2 entered 0 visits 2 arrivals 0 settles 2
 ";
 
-const MEET: &str = "rehearse --topology g --trace t --out o --report r --cores 3 --directory d";
+pub const MEET: &str = "rehearse --topology g --trace t --out o --report r --cores 3 --directory d";
 
 #[test]
 fn two_packets_of_two_cores_meet_in_a_pipe_of_a_third(rt: HostRuntime) {
@@ -579,7 +554,7 @@ pipe 0 passed 2 lost 0 full 0
 }
 
 /// The directory of three cores in its second version, with this head and this change of a pipe.
-fn star_with_a_change(
+pub fn star_with_a_change(
     rt: &(impl Abort + AllocGlobal),
     changes: u32,
     pipe: u32,
@@ -625,90 +600,6 @@ core 2 pipes 2 entered 0 visits 2 arrivals 0 settles 2
 }
 
 #[test]
-fn changes_that_are_refused(rt: HostRuntime) {
-    let trace = to_the_third(&rt, 0, 0);
-    for (changes, pipe, latency_us, fault) in [
-        (2, 0, 0, ChangesFault::Count),
-        (1, 6, 0, ChangesFault::Line(8)),
-        (1, 0, 10_000_001, ChangesFault::Range(8)),
-    ] {
-        let directory = star_with_a_change(&rt, changes, pipe, latency_us);
-        let inputs = Inputs {
-            topology: STAR,
-            trace: &trace,
-            directory: directory.as_str(),
-        };
-        let status = Status::BadPlan(PlanFault::Changes(fault));
-        assert_refused(&rt, MEET, &inputs, status);
-    }
-}
-
-#[test]
-fn each_input_is_refused_by_its_first_fault(rt: HostRuntime) {
-    let cut = first_bytes(&rt, 28);
-    let no_id = GmlFault::Missing {
-        item: Item::Node(0),
-        key: Key::Id,
-    };
-    let of_three = "modelnet-directory 1 cores 3 pipes 6";
-    let head = PlanFault::Assign(AssignFault::Head);
-    for (topology, trace, directory, status) in [
-        (
-            "graph [ node [ ] ]",
-            "".as_bytes(),
-            "",
-            Status::BadTopology(no_id),
-        ),
-        (
-            STAR,
-            cut.as_slice(),
-            "",
-            Status::BadCapture(NgFault::NoInterface),
-        ),
-        (STAR, &TWO_PACKETS, of_three, Status::BadPlan(head)),
-    ] {
-        let inputs = Inputs {
-            topology,
-            trace,
-            directory,
-        };
-        assert_refused(&rt, CROSS_AND_TELL, &inputs, status);
-    }
-}
-
-#[test]
-fn a_mesh_of_1001000_pipes_is_refused(rt: HostRuntime) {
-    let fan = fan_of_routers(&rt).expect(&rt, "memory");
-    let inputs = Inputs {
-        topology: fan.as_str(),
-        trace: &TWO_PACKETS,
-        directory: "",
-    };
-    let status = Status::BadPlan(PlanFault::TooManyPipes(1_001_000));
-    assert_refused(&rt, CROSS_AND_TELL, &inputs, status);
-}
-
-#[test]
-fn fronts_of_a_trace(rt: HostRuntime) {
-    for length in 0usize..97 {
-        let trace = TWO_PACKETS.get(..length).expect(&rt, "so many bytes");
-        let inputs = Inputs {
-            topology: TWO_STUBS,
-            trace,
-            directory: "",
-        };
-        let fault = match length {
-            0..4 => PcapFault::NotPcap,
-            4..24 => PcapFault::ShortHeader,
-            25..60 => PcapFault::Truncated(0),
-            61..96 => PcapFault::Truncated(1),
-            _ => continue,
-        };
-        assert_refused(&rt, CROSS, &inputs, Status::BadTrace(fault));
-    }
-}
-
-#[test]
 fn a_header_alone_and_one_packet(rt: HostRuntime) {
     for (length, report, tally) in [
         (
@@ -744,80 +635,4 @@ pipe 8 passed 1 lost 0 full 0
         };
         assert_rehearses(&rt, CROSS, &inputs, &told);
     }
-}
-
-/// Runs over a host of which one call fails, the first of its kind and role, and compares how it ends and how many bytes of each
-/// whole output are written.
-fn assert_stops(
-    rt: &(impl Abort + AllocGlobal),
-    role: Role,
-    op: Op,
-    status: Status,
-    written: [usize; 3],
-) {
-    let words = words_in(rt, CROSS_AND_TELL);
-    let fail = Fail { role, op, k: 0 };
-    let mut host = host(rt, &TWO_STUBS_CROSSED, &[fail], 4_096);
-    let ended = plain(rt.alloc(), &words, &mut host, &mut Tally::new());
-    assert_eq!(rt; ended, status);
-    let [out, report, screen] = written;
-    let whole = TWO_PACKETS_OUT.get(..out);
-    assert_eq!(rt; Some(host.written_bytes(Role::Out)), whole);
-    let whole = TWO_PACKETS_REPORT.as_bytes().get(..report);
-    assert_eq!(rt; Some(host.written_bytes(Role::Report)), whole);
-    let whole = TWO_CORES.as_bytes().get(..screen);
-    assert_eq!(rt; Some(host.written_bytes(Role::Screen)), whole);
-}
-
-#[test]
-fn each_failed_call_is_named_by_its_role(rt: HostRuntime) {
-    for role in [Role::Topology, Role::Trace, Role::Directory] {
-        for op in [Op::Begin, Op::Read, Op::Finish] {
-            assert_stops(&rt, role, op, Status::ReadFault(role), [0, 0, 0]);
-        }
-    }
-    let out = TWO_PACKETS_OUT.len();
-    let report = TWO_PACKETS_REPORT.len();
-    let screen = TWO_CORES.len();
-    for (role, before, after) in [
-        (Role::Out, [0, 0, 0], [out, 0, 0]),
-        (Role::Report, [out, 0, 0], [out, report, 0]),
-        (Role::Screen, [out, report, 0], [out, report, screen]),
-    ] {
-        let status = Status::WriteFault(role);
-        assert_stops(&rt, role, Op::Begin, status, before);
-        assert_stops(&rt, role, Op::Write, status, before);
-        assert_stops(&rt, role, Op::Finish, status, after);
-    }
-}
-
-/// How the crossing of two stubs ends, where so many bytes of each input are read at most.
-fn status_within(rt: &(impl Abort + AllocGlobal), limits: &ReadLimits) -> Status
-    requires { AreWithinUsual limits.now }
-{
-    let words = words_in(rt, CROSS_AND_TELL);
-    let mut host = host(rt, &TWO_STUBS_CROSSED, &[], 4_096);
-    plain_within(rt.alloc(), limits, &words, &mut host, &mut Tally::new())
-}
-
-#[test]
-fn inputs_above_their_limits_are_too_large(rt: HostRuntime) {
-    let mut limits = ReadLimits {
-        topology: TOPOLOGY_BYTES_MAX,
-        trace: TRACE_BYTES_MAX,
-        directory: TWO_STUBS_ON_TWO_CORES.len(),
-    };
-    assert_eq!(rt; status_within(&rt, &limits), Status::Done);
-    limits.directory = 8;
-    assert_eq!(rt;
-        status_within(&rt, &limits),
-        Status::TooLarge(Role::Directory)
-    );
-    limits.trace = 95;
-    assert_eq!(rt; status_within(&rt, &limits), Status::TooLarge(Role::Trace));
-    limits.topology = 8;
-    assert_eq!(rt;
-        status_within(&rt, &limits),
-        Status::TooLarge(Role::Topology)
-    );
 }
