@@ -1,0 +1,4 @@
+pub mod Places
+pub mod Ran
+pub mod Standing
+pub mod Starting
