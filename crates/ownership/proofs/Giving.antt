@@ -20,38 +20,53 @@ use Rattle.ownership.proofs.Reaches.{given, not_given, near_more, all_more}
 use Rattle.ownership.proofs.TurnSteps.{reaches_set}
 use Rattle.ownership.proofs.EachOnce.{turn_pipe}
 
--- the pipe of a turn was given
-pub gave : (d : DistilledView) (cores : ℕ) (owned : List Owned) (t t' : Turns) (core pipe : ℕ) (ends : DistilledPipe)
-    (from_row to_row : List ℕ) (old mid new : Reach)
-    → core < cores → pipe_of_turn d cores owned core ≡ Some pipe → HoldsTurns d cores owned (Some pipe) t
-    → slice_get d.pipes pipe ≡ Some ends → old ≡ get_or t.reaches.items core old
-    → IsRowOf d.pipes ends.from from_row → IsRowOf d.pipes ends.to to_row
-    → AddsNode ends.from from_row (set t.owners.items pipe (Some core)) old mid
-    → AddsNode ends.to to_row (set t.owners.items pipe (Some core)) mid new
-    → t'.owners.items ≡ set t.owners.items pipe (Some core) → t'.reaches.items ≡ set t.reaches.items core new → t'.least ≡ t.least
+-- the pipe of a turn is given to its core, which reaches both ends of it from then on
+pub record GivesPipe (d : DistilledView) (cores : ℕ) (owned : List Owned) (t t' : Turns) (core pipe : ℕ) : Type 0 where
+  pub low : core < cores
+  pub turn : pipe_of_turn d cores owned core ≡ Some pipe
+  pub holds : HoldsTurns d cores owned (Some pipe) t
+  pub ends : DistilledPipe
+  pub ends_are : slice_get d.pipes pipe ≡ Some ends
+  pub from_row : List ℕ
+  pub from_is : IsRowOf d.pipes ends.from from_row
+  pub to_row : List ℕ
+  pub to_is : IsRowOf d.pipes ends.to to_row
+  pub old : Reach
+  pub reach_is : old ≡ get_or t.reaches.items core old
+  pub mid : Reach
+  pub first : AddsNode ends.from from_row (set t.owners.items pipe (Some core)) old mid
+  pub new : Reach
+  pub second : AddsNode ends.to to_row (set t.owners.items pipe (Some core)) mid new
+  pub owners : t'.owners.items ≡ set t.owners.items pipe (Some core)
+  pub reaches : t'.reaches.items ≡ set t.reaches.items core new
+  pub least : t'.least ≡ t.least
+
+-- then the core owns it
+pub gave : (d : DistilledView) (cores : ℕ) (owned : List Owned) (t t' : Turns) (core pipe : ℕ) → GivesPipe d cores owned t t' core pipe
     → HoldsTurns d cores (owned ++ record { pipe = pipe; core = core } ∷ []) None t'
-gave d cores owned t t' core pipe ends from_row to_row old mid new low turn holds at read from_is to_is first second owners reaches least = record {
-  owners = subst (AreOwners (length d.pipes) (owned ++ record { pipe = pipe; core = core } ∷ [])) (sym owners) are;
-  len = ap length reaches ∙ length-set t.reaches.items core new ∙ holds.len;
+gave d cores owned t t' core pipe g = record {
+  owners = subst (AreOwners (length d.pipes) (owned ++ record { pipe = pipe; core = core } ∷ [])) (sym g.owners) are;
+  len = ap length g.reaches ∙ length-set t.reaches.items core g.new ∙ g.holds.len;
   reaches = λ c other within.
-      subst (λ (rs : List Reach). IsReach d cores (owned ++ record { pipe = pipe; core = core } ∷ []) None c (get_or rs c other)) (sym reaches)
-      (reaches_set d cores owned (owned ++ record { pipe = pipe; core = core } ∷ []) (Some pipe) None t.reaches.items core new holds.len low
-      (given d cores owned (set t.owners.items pipe (Some core)) (record { pipe = pipe; core = core }) ends from_row to_row old mid new at are
-      (subst (IsReach d cores owned (Some pipe) core) (sym read) (holds.reaches core old low)) from_is to_is first second)
+      subst (λ (rs : List Reach). IsReach d cores (owned ++ record { pipe = pipe; core = core } ∷ []) None c (get_or rs c other)) (sym g.reaches)
+      (reaches_set d cores owned (owned ++ record { pipe = pipe; core = core } ∷ []) (Some pipe) None t.reaches.items core g.new g.holds.len g.low
+      (given d cores owned (set t.owners.items pipe (Some core)) (record { pipe = pipe; core = core }) g.ends g.from_row g.to_row g.old g.mid g.new
+      g.ends_are are (subst (IsReach d cores owned (Some pipe) core) (sym g.reach_is) (g.holds.reaches core g.old g.low)) g.from_is g.to_is g.first
+      g.second)
       (λ k o inside away.
       not_given d cores owned (record { pipe = pipe; core = core }) k (get_or t.reaches.items k o) (λ same. away (sym same))
-      (holds.reaches k o inside))
+      (g.holds.reaches k o inside))
       c other within);
   below = λ q before.
       is_owned-push owned (record { pipe = pipe; core = core }) q
-      ∙ or_left (is_owned owned q) (pipe == q) (holds.below q (subst (λ n. q < n) least before));
-  least = subst (λ n. n ≤ length d.pipes) (sym least) holds.least;
+      ∙ or_left (is_owned owned q) (pipe == q) (g.holds.below q (subst (λ n. q < n) g.least before));
+  least = subst (λ n. n ≤ length d.pipes) (sym g.least) g.holds.least;
 }
   where
     are : AreOwners (length d.pipes) (owned ++ record { pipe = pipe; core = core } ∷ []) (set t.owners.items pipe (Some core))
     are =
-        let free = turn_pipe d cores owned core pipe turn in
-        owners_more (length d.pipes) owned t.owners.items (record { pipe = pipe; core = core }) holds.owners free.0 free.1
+        let free = turn_pipe d cores owned core pipe g.turn in
+        owners_more (length d.pipes) owned t.owners.items (record { pipe = pipe; core = core }) g.holds.owners free.0 free.1
 
 pub as_next : (d : DistilledView) (cores : ℕ) (owned next : List Owned) (t : Turns) → next ≡ owned → HoldsTurns d cores owned None t
     → HoldsTurns d cores next None t
@@ -67,31 +82,43 @@ start_node d es place core cores len same len_is place_is low =
     ∙ slice_get-get_or d.edge_nodes place 0 (omega (arith, low, count))
     ∙ ap (λ (xs : List ℕ). Some (get_or xs place 0)) (sym same)
 
+-- a core starts with a node, whose row is added to a reach of nothing
+pub record StartsAt (d : DistilledView) (cores core : ℕ) (new : Reach) : Type 0 where
+  pub node : ℕ
+  pub node_is : slice_get d.edge_nodes (core * length d.edge_nodes / cores) ≡ Some node
+  pub row : List ℕ
+  pub row_is : IsRowOf d.pipes node row
+  pub owners : List (Option ℕ)
+  pub free : (q : ℕ) → IsFree owners q
+  pub old : Reach
+  pub size : length old.nodes ≡ d.nodes
+  pub empty : (u : ℕ) → has old.nodes u ≡ false
+  pub none : old.near ≡ []
+  pub adds : AddsNode node row owners old new
+
 -- before the first turn a core has the node where it starts
-pub started : (d : DistilledView) (cores core v : ℕ) (row : List ℕ) (owners : List (Option ℕ)) (old new : Reach)
-    → slice_get d.edge_nodes (core * length d.edge_nodes / cores) ≡ Some v → length old.nodes ≡ d.nodes
-    → ((u : ℕ) → has old.nodes u ≡ false) → old.near ≡ [] → IsRowOf d.pipes v row
-    → ((q : ℕ) → IsFree owners q) → AddsNode v row owners old new → IsReach d cores [] None core new
-started d cores core v row owners old new at size empty none is_row free adds = record {
-  size = adds.size ∙ size;
+pub started : (d : DistilledView) (cores core : ℕ) (new : Reach) → StartsAt d cores core new → IsReach d cores [] None core new
+started d cores core new s = record {
+  size = s.adds.size ∙ s.size;
   nodes = λ u within.
-      adds.nodes u
-      ∙ ap (λ (b : Bool). b || v == u) (empty u)
-      ∙ sym (ap (λ (o : Option ℕ). option_map_or (λ w. w == u) o false || false) at ∙ or_false (v == u));
-  near = near_more d.pipes v row owners old new adds is_row (λ q there. absurd (subst (Among q) none there));
+      s.adds.nodes u
+      ∙ ap (λ (b : Bool). b || s.node == u) (s.empty u)
+      ∙ sym (ap (λ (o : Option ℕ). option_map_or (λ w. w == u) o false || false) s.node_is ∙ or_false (s.node == u));
+  near = near_more d.pipes s.node s.row s.owners s.old new s.adds s.row_is (λ q there. absurd (subst (Among q) s.none there));
   all = λ q unowned gone e.
-      all_more d.pipes v row owners old new adds is_row q (free q) (λ ends. absurd (no_end (slice_get d.pipes q) ends)) e;
+      all_more d.pipes s.node s.row s.owners s.old new s.adds s.row_is q (s.free q)
+      (λ ends. absurd (no_end (slice_get d.pipes q) ends)) e;
 }
   where
     or_false : (b : Bool) → (b || false) ≡ b
     or_false true = refl
     or_false false = refl
 
-    no_end : (o : Option DistilledPipe) → option_map_or (λ pipe. has old.nodes pipe.from || has old.nodes pipe.to) o false ≡ true → ⊥
+    no_end : (o : Option DistilledPipe) → option_map_or (λ pipe. has s.old.nodes pipe.from || has s.old.nodes pipe.to) o false ≡ true → ⊥
     no_end None e = false≢true e
     no_end (Some pipe) e =
         false≢true
-        (sym (or_from _ _ (empty pipe.from) (empty pipe.to)) ∙ e)
+        (sym (or_from _ _ (s.empty pipe.from) (s.empty pipe.to)) ∙ e)
 
 -- ---- in the end
 pub owners_settled : (d : DistilledView) (cores : ℕ) (owners : List (Option ℕ)) → AreOwners (length d.pipes) (assigned d cores) owners

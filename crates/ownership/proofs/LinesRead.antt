@@ -67,17 +67,24 @@ nothing_read pipes cores lines owners len none = record {
   number = refl;
 }
 
-pub one_read : (pipes cores n : ℕ) (lines now left : List (List ℕ)) (line : List ℕ) (owners : List (Option ℕ)) (o : Owned)
-    → HasRead pipes cores n lines now owners → now ≡ line ∷ left
+-- this line is the next, and these are left behind it
+pub record IsNextLine (pipes cores n : ℕ) (lines left : List (List ℕ)) (line : List ℕ) (owners : List (Option ℕ)) : Type 0 where
+  pub now : List (List ℕ)
+  pub has : HasRead pipes cores n lines now owners
+  pub split : now ≡ line ∷ left
+
+-- the next line says an owner and has no fault
+pub one_read : (pipes cores n : ℕ) (lines left : List (List ℕ)) (line : List ℕ) (owners : List (Option ℕ)) (o : Owned)
+    → IsNextLine pipes cores n lines left line owners
     → owned_of line ≡ Some o → owner_line_fault (length owners) cores n (has_owner owners) line ≡ None
     → HasRead pipes cores (n + 1) lines left (set owners o.pipe (Some o.core))
-one_read pipes cores n lines now left line owners o has split says none = record { reading = next; number = number }
+one_read pipes cores n lines left line owners o next_line says none = record { reading = next; number = number }
   where
-    r : IsReading pipes cores lines now owners
-    r = has.reading
+    r : IsReading pipes cores lines next_line.now owners
+    r = next_line.has.reading
 
     fault_none : owner_fault pipes cores r.before line ≡ None
-    fault_none = next_fault pipes cores n r.before r.owned owners line r.are r.owners_are has.number ∙ none
+    fault_none = next_fault pipes cores n r.before r.owned owners line r.are r.owners_are next_line.has.number ∙ none
 
     passes : Passes pipes cores (is_owned r.owned) o
     passes =
@@ -89,28 +96,29 @@ one_read pipes cores n lines now left line owners o has split says none = record
     next = record {
       before = r.before ++ line ∷ [];
       owned = r.owned ++ o ∷ [];
-      split = r.split ∙ ap (λ (ls : List (List ℕ)). r.before ++ ls) split ∙ sym (append_assoc r.before (line ∷ []) left);
+      split = r.split ∙ ap (λ (ls : List (List ℕ)). r.before ++ ls) next_line.split ∙ sym (append_assoc r.before (line ∷ []) left);
       are = push_line pipes cores r.before r.owned line o r.are says passes;
       owners_are = owners_more pipes r.owned owners o r.owners_are passes.pipe passes.free;
       faults =
           r.faults
-          ∙ ap (λ (ls : List (List ℕ)). first_line_fault (owner_fault pipes cores) r.before ls) split
+          ∙ ap (λ (ls : List (List ℕ)). first_line_fault (owner_fault pipes cores) r.before ls) next_line.split
           ∙ ap (λ (x : Option AssignFault). option_or x (first_line_fault (owner_fault pipes cores) (r.before ++ line ∷ []) left)) fault_none;
     }
 
     number : n + 1 ≡ 2 + length (r.before ++ line ∷ [])
-    number = omega (arith, has.number, length-append r.before (line ∷ []))
+    number = omega (arith, next_line.has.number, length-append r.before (line ∷ []))
 
-pub first_fault_read : (pipes cores n : ℕ) (lines now left : List (List ℕ)) (line : List ℕ) (owners : List (Option ℕ)) (fault : AssignFault)
-    → HasRead pipes cores n lines now owners → now ≡ line ∷ left
+-- a fault of the next line is the first
+pub first_fault_read : (pipes cores n : ℕ) (lines left : List (List ℕ)) (line : List ℕ) (owners : List (Option ℕ)) (fault : AssignFault)
+    → IsNextLine pipes cores n lines left line owners
     → owner_line_fault (length owners) cores n (has_owner owners) line ≡ Some fault
     → first_line_fault (owner_fault pipes cores) [] lines ≡ Some fault
-first_fault_read pipes cores n lines now left line owners fault has split faulty =
-    let r : IsReading pipes cores lines now owners = has.reading in
+first_fault_read pipes cores n lines left line owners fault next_line faulty =
+    let r : IsReading pipes cores lines next_line.now owners = next_line.has.reading in
     r.faults
-    ∙ ap (λ (ls : List (List ℕ)). first_line_fault (owner_fault pipes cores) r.before ls) split
+    ∙ ap (λ (ls : List (List ℕ)). first_line_fault (owner_fault pipes cores) r.before ls) next_line.split
     ∙ ap (λ (x : Option AssignFault). option_or x (first_line_fault (owner_fault pipes cores) (r.before ++ line ∷ []) left))
-    (next_fault pipes cores n r.before r.owned owners line r.are r.owners_are has.number ∙ faulty)
+    (next_fault pipes cores n r.before r.owned owners line r.are r.owners_are next_line.has.number ∙ faulty)
 
 pub all_read : (pipes cores n : ℕ) (lines now : List (List ℕ)) (owners : List (Option ℕ)) → HasRead pipes cores n lines now owners → now ≡ []
     → SayOwners pipes cores lines owners

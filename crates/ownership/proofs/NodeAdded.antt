@@ -55,20 +55,28 @@ row_more start row owners i now new within had adds = record {
       (cases_eq j i);
 }
 
--- at the end all were, and the node is marked
-pub node_added : (v : ℕ) (row : List ℕ) (owners : List (Option ℕ)) (old new : Reach) (marks : List Bool) (i : ℕ) → new.nodes ≡ marks
-    → length marks ≡ length old.nodes → ((u : ℕ) → has marks u ≡ (has old.nodes u || is_in u (v ∷ []))) → length row ≡ i
-    → RowSoFar old.near row owners i new.near → AddsNode v row owners old new
-node_added v row owners old new marks i same size marked done had = record {
-  size = ap length same ∙ size;
-  nodes = λ u. ap (λ (m : List Bool). has m u) same ∙ marked u ∙ ap (λ (b : Bool). has old.nodes u || b) (or_false (v == u));
-  from = had.from;
-  kept = had.kept;
+-- the node is marked, and its whole row was put in
+pub record NodeMarked (v : ℕ) (row : List ℕ) (owners : List (Option ℕ)) (old new : Reach) : Type 0 where
+  pub marks : List Bool
+  pub marks_are : new.nodes ≡ marks
+  pub size : length marks ≡ length old.nodes
+  pub marked : (u : ℕ) → has marks u ≡ (has old.nodes u || is_in u (v ∷ []))
+  pub count : ℕ
+  pub whole : length row ≡ count
+  pub row_in : RowSoFar old.near row owners count new.near
+
+-- then the node was added
+pub node_added : (v : ℕ) (row : List ℕ) (owners : List (Option ℕ)) (old new : Reach) → NodeMarked v row owners old new → AddsNode v row owners old new
+node_added v row owners old new is = record {
+  size = ap length is.marks_are ∙ is.size;
+  nodes = λ u. ap (λ (m : List Bool). has m u) is.marks_are ∙ is.marked u ∙ ap (λ (b : Bool). has old.nodes u || b) (or_false (v == u));
+  from = is.row_in.from;
+  kept = is.row_in.kept;
   added = λ unmarked k there free.
       let at : IndexOf k row = index_of k row there in
-      let within : at.index < i = (let low = at.within in omega (arith, done)) in
+      let within : at.index < is.count = (let low = at.within in let whole = is.whole in omega (arith, low, whole)) in
       subst (λ n. Among n new.near) (at.here 0)
-      (had.added at.index within (subst (λ n. IsFree owners n) (sym (at.here 0)) free));
+      (is.row_in.added at.index within (subst (λ n. IsFree owners n) (sym (at.here 0)) free));
 }
   where
     or_false : (b : Bool) → (b || false) ≡ b

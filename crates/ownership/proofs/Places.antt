@@ -48,76 +48,98 @@ pub reach_size : (d : DistilledView) (cores : ℕ) (owned : List Owned) (gone : 
 reach_size d cores owned gone t core reach holds low read =
     ap (λ (r : Reach). length r.nodes) read ∙ (holds.reaches core reach low).size
 
+-- a core's reach is read from the turns
+pub record HasReach (d : DistilledView) (cores : ℕ) (owned : List Owned) (gone : Option ℕ) (t : Turns) (core : ℕ) (reach : Reach) : Type 0 where
+  pub holds : HoldsTurns d cores owned gone t
+  pub low : core < cores
+  pub reach_is : reach ≡ get_or t.reaches.items core reach
+
 pub near_below : (d : DistilledView) (cores : ℕ) (owned : List Owned) (gone : Option ℕ) (t : Turns) (core : ℕ) (reach : Reach)
-    (os : List (Option ℕ)) → HoldsTurns d cores owned gone t → core < cores → reach ≡ get_or t.reaches.items core reach
-    → os ≡ t.owners.items → (k : ℕ) → Among k reach.near → k < length os
-near_below d cores owned gone t core reach os holds low read same k there =
-    let is : IsReach d cores owned gone core reach = subst (IsReach d cores owned gone core) (sym read) (holds.reaches core reach low) in
+    (os : List (Option ℕ)) → HasReach d cores owned gone t core reach → os ≡ t.owners.items → (k : ℕ) → Among k reach.near → k < length os
+near_below d cores owned gone t core reach os from same k there =
+    let is : IsReach d cores owned gone core reach =
+    subst (IsReach d cores owned gone core) (sym from.reach_is) (from.holds.reaches core reach from.low) in
     let within : k < length d.pipes = within_by_end d.pipes (has reach.nodes) k (is.near k there) in
     let len : length os ≡ length t.owners.items = ap length same in
-    omega (arith, within, len, holds.owners.len)
+    omega (arith, within, len, from.holds.owners.len)
 
 -- ---- a picked pipe
-pub some_pipe : (d : DistilledView) (cores : ℕ) (owned : List Owned) (t : Turns) (core : ℕ) (r : Option ℕ) (reach : Reach)
-    (os : List (Option ℕ)) (new : List ℕ) → KeepsPipeLimits d → core < cores → HoldsTurns d cores owned None t
-    → reach ≡ get_or t.reaches.items core reach → os ≡ t.owners.items → is_some r ≡ true
-    → MatchOption r (FindsNone os reach.near new) (λ pipe. FindsLeast os reach.near pipe new)
-    → r ≡ pipe_of_turn d cores owned core
-some_pipe d cores owned t core None reach os new keeps low holds read same some found = absurd (false≢true some)
-some_pipe d cores owned t core (Some pipe) reach os new keeps low holds read same some found =
-    sym (near_is_turn d cores owned t core pipe reach new keeps low holds read
-    (subst (λ (xs : List (Option ℕ)). FindsLeast xs reach.near pipe new) same found))
+-- what a turn of a core finds: its reach, and what is left of the pipes that it may take once one was taken out, or none
+pub record Looks (d : DistilledView) (cores : ℕ) (owned : List Owned) (t : Turns) (core : ℕ) (near : Option ℕ) : Type 0 where
+  pub keeps : KeepsPipeLimits d
+  pub low : core < cores
+  pub holds : HoldsTurns d cores owned None t
+  pub reach : Reach
+  pub reach_is : reach ≡ get_or t.reaches.items core reach
+  pub owners : List (Option ℕ)
+  pub owners_are : owners ≡ t.owners.items
+  pub left : List ℕ
+  pub found : MatchOption near (FindsNone owners reach.near left) (λ pipe. FindsLeast owners reach.near pipe left)
 
-pub some_holds : (d : DistilledView) (cores : ℕ) (owned : List Owned) (t t' : Turns) (core : ℕ) (r : Option ℕ) (reach reach' : Reach)
-    (os : List (Option ℕ)) → KeepsPipeLimits d → core < cores → HoldsTurns d cores owned None t
-    → reach ≡ get_or t.reaches.items core reach → os ≡ t.owners.items → is_some r ≡ true
-    → MatchOption r (FindsNone os reach.near reach'.near) (λ pipe. FindsLeast os reach.near pipe reach'.near)
-    → reach'.nodes ≡ reach.nodes → t'.owners.items ≡ t.owners.items → t'.reaches.items ≡ set t.reaches.items core reach'
-    → t'.least ≡ t.least → HoldsTurns d cores owned r t'
-some_holds d cores owned t t' core None reach reach' os keeps low holds read same some found nodes owners reaches least = absurd (false≢true some)
-some_holds d cores owned t t' core (Some pipe) reach reach' os keeps low holds read same some found nodes owners reaches least =
-    picked_near d cores owned t t' core pipe reach reach' keeps low holds read nodes
-    (subst (λ (xs : List (Option ℕ)). FindsLeast xs reach.near pipe reach'.near) same found) owners reaches least
+-- where none is near: the next pipe without an owner, of so many
+pub record LooksOn (t : Turns) (near : Option ℕ) : Type 0 where
+  pub none : is_some near ≡ false
+  pub owners : List (Option ℕ)
+  pub owners_are : owners ≡ t.owners.items
+  pub next : ℕ
+  pub next_is : IsNextUnowned owners t.least next
 
-none_found : (r : Option ℕ) (os : List (Option ℕ)) (old new : List ℕ) → is_some r ≡ false
-    → MatchOption r (FindsNone os old new) (λ pipe. FindsLeast os old pipe new) → FindsNone os old new
+-- the turns after that: the reach is put back with what is left
+pub record PutBack (t t' : Turns) (core : ℕ) (reach : Reach) (left : List ℕ) (least : ℕ) : Type 0 where
+  pub owners : t'.owners.items ≡ t.owners.items
+  pub reaches : t'.reaches.items ≡ set t.reaches.items core (record { nodes = reach.nodes; near = left })
+  pub least_is : t'.least ≡ least
+
+pub some_pipe : (d : DistilledView) (cores : ℕ) (owned : List Owned) (t : Turns) (core : ℕ) (near : Option ℕ)
+    → Looks d cores owned t core near → is_some near ≡ true → near ≡ pipe_of_turn d cores owned core
+some_pipe d cores owned t core None looks some = absurd (false≢true some)
+some_pipe d cores owned t core (Some pipe) looks some =
+    sym (near_is_turn d cores owned t core pipe looks.reach looks.left looks.keeps looks.low looks.holds looks.reach_is
+    (subst (λ (xs : List (Option ℕ)). FindsLeast xs looks.reach.near pipe looks.left) looks.owners_are looks.found))
+
+pub some_holds : (d : DistilledView) (cores : ℕ) (owned : List Owned) (t t' : Turns) (core : ℕ) (near : Option ℕ)
+    (looks : Looks d cores owned t core near) → is_some near ≡ true → PutBack t t' core looks.reach looks.left t.least
+    → HoldsTurns d cores owned near t'
+some_holds d cores owned t t' core None looks some put = absurd (false≢true some)
+some_holds d cores owned t t' core (Some pipe) looks some put =
+    picked_near d cores owned t t' core pipe looks.reach (record { nodes = looks.reach.nodes; near = looks.left }) looks.keeps looks.low looks.holds
+    looks.reach_is refl
+    (subst (λ (xs : List (Option ℕ)). FindsLeast xs looks.reach.near pipe looks.left) looks.owners_are looks.found)
+    put.owners put.reaches put.least_is
+
+none_found : (near : Option ℕ) (os : List (Option ℕ)) (old new : List ℕ) → is_some near ≡ false
+    → MatchOption near (FindsNone os old new) (λ pipe. FindsLeast os old pipe new) → FindsNone os old new
 none_found None os old new none found = found
 none_found (Some k) os old new none found = absurd (true≢false none)
 
-pub far_pipe_is : (d : DistilledView) (cores : ℕ) (owned : List Owned) (t : Turns) (core next len : ℕ) (r : Option ℕ) (reach : Reach)
-    (os os' : List (Option ℕ)) (new : List ℕ) → KeepsPipeLimits d → core < cores → HoldsTurns d cores owned None t
-    → reach ≡ get_or t.reaches.items core reach → os ≡ t.owners.items → os' ≡ t.owners.items → is_some r ≡ false
-    → MatchOption r (FindsNone os reach.near new) (λ pipe. FindsLeast os reach.near pipe new)
-    → IsNextUnowned os' t.least next → len ≡ length t.owners.items
-    → then_some (nat_lt next len) next ≡ pipe_of_turn d cores owned core
-far_pipe_is d cores owned t core next len r reach os os' new keeps low holds read same same' none found is len_is =
-    go (nat_lt next len) refl
-  where
-    found_none : FindsNone t.owners.items reach.near new
-    found_none = subst (λ (xs : List (Option ℕ)). FindsNone xs reach.near new) same (none_found r os reach.near new none found)
+module _ (d : DistilledView) (cores : ℕ) (owned : List Owned) (t : Turns) (core : ℕ) (near : Option ℕ)
+    (looks : Looks d cores owned t core near) (on : LooksOn t near) where
+  found_none : FindsNone t.owners.items looks.reach.near looks.left
+  found_none =
+      subst (λ (xs : List (Option ℕ)). FindsNone xs looks.reach.near looks.left) looks.owners_are
+      (none_found near looks.owners looks.reach.near looks.left on.none looks.found)
 
-    next_is : IsNextUnowned t.owners.items t.least next
-    next_is = subst (λ (xs : List (Option ℕ)). IsNextUnowned xs t.least next) same' is
+  next_unowned : IsNextUnowned t.owners.items t.least on.next
+  next_unowned = subst (λ (xs : List (Option ℕ)). IsNextUnowned xs t.least on.next) on.owners_are on.next_is
 
-    go : (b : Bool) → nat_lt next len ≡ b → then_some b next ≡ pipe_of_turn d cores owned core
-    go true e =
-        sym (far_is_turn d cores owned t core next reach new keeps low holds read found_none next_is
-        (let under : next < len = ltb-true next len e in omega (arith, under, len_is)))
-    go false e =
-        sym (none_is_turn d cores owned t core next reach new keeps low holds read found_none next_is
-        (let over : len ≤ next = ltb-false next len e in omega (arith, over, len_is)))
+  -- the pipe of the turn is the next without an owner, if there is one
+  pub far_pipe_is : (len : ℕ) → len ≡ length t.owners.items → then_some (nat_lt on.next len) on.next ≡ pipe_of_turn d cores owned core
+  far_pipe_is len len_is = go (nat_lt on.next len) refl
+    where
+      go : (b : Bool) → nat_lt on.next len ≡ b → then_some b on.next ≡ pipe_of_turn d cores owned core
+      go true e =
+          sym (far_is_turn d cores owned t core on.next looks.reach looks.left looks.keeps looks.low looks.holds looks.reach_is found_none
+          next_unowned
+          (let under : on.next < len = ltb-true on.next len e in omega (arith, under, len_is)))
+      go false e =
+          sym (none_is_turn d cores owned t core on.next looks.reach looks.left looks.keeps looks.low looks.holds looks.reach_is found_none
+          next_unowned
+          (let over : len ≤ on.next = ltb-false on.next len e in omega (arith, over, len_is)))
 
-pub far_holds : (d : DistilledView) (cores : ℕ) (owned : List Owned) (t t' : Turns) (core next : ℕ) (r gone : Option ℕ)
-    (reach reach' : Reach) (os os' : List (Option ℕ)) → core < cores → HoldsTurns d cores owned None t
-    → reach ≡ get_or t.reaches.items core reach → os ≡ t.owners.items → os' ≡ t.owners.items → is_some r ≡ false
-    → MatchOption r (FindsNone os reach.near reach'.near) (λ pipe. FindsLeast os reach.near pipe reach'.near)
-    → IsNextUnowned os' t.least next
-    → reach'.nodes ≡ reach.nodes → t'.owners.items ≡ t.owners.items → t'.reaches.items ≡ set t.reaches.items core reach'
-    → t'.least ≡ next → HoldsTurns d cores owned gone t'
-far_holds d cores owned t t' core next r gone reach reach' os os' low holds read same same' none found is nodes owners reaches least =
-    picked_far d cores owned t t' core next gone reach reach' low holds read nodes
-    (subst (λ (xs : List (Option ℕ)). FindsNone xs reach.near reach'.near) same (none_found r os reach.near reach'.near none found))
-    (subst (λ (xs : List (Option ℕ)). IsNextUnowned xs t.least next) same' is) owners reaches least
+  pub far_holds : (t' : Turns) (gone : Option ℕ) → PutBack t t' core looks.reach looks.left on.next → HoldsTurns d cores owned gone t'
+  far_holds t' gone put =
+      picked_far d cores owned t t' core on.next gone looks.reach (record { nodes = looks.reach.nodes; near = looks.left }) looks.low looks.holds
+      looks.reach_is refl found_none next_unowned put.owners put.reaches put.least_is
 
 -- ---- the start
 pub place_fits : (core cores m : ℕ) → core < cores → core * m / cores ≤ m

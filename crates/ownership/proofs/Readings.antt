@@ -113,21 +113,29 @@ owner_among pipes owned owners cores are same q within =
     ∙ get_or-map (λ (core : ℕ). Some core) cores q 0 None
     (omega (arith, length-map cores (λ (core : ℕ). Some core), ap length same, are.len)))
 
-pub directs : (text : List ℕ) (d : DistilledView) (cores : ℕ) (head : List ℕ) (body : List (List ℕ)) (said : List (Option ℕ))
-    (owners : List ℕ) (directory : DirectoryView) → lines_of text ≡ head ∷ body → is_head cores (length d.pipes) head ≡ true
-    → SayOwners (length d.pipes) cores body said → map (λ core. Some core) owners ≡ said
+-- a text has a head line of this distilled topology and so many cores, and its other lines say these owners
+pub record IsText (text : List ℕ) (d : DistilledView) (cores : ℕ) (said : List (Option ℕ)) : Type 0 where
+  pub head : List ℕ
+  pub body : List (List ℕ)
+  pub lines : lines_of text ≡ head ∷ body
+  pub headed_by : is_head cores (length d.pipes) head ≡ true
+  pub say : SayOwners (length d.pipes) cores body said
+
+-- it says the directory of these owners, where each pipe has one
+pub directs : (text : List ℕ) (d : DistilledView) (cores : ℕ) (said : List (Option ℕ)) (owners : List ℕ) (directory : DirectoryView)
+    → IsText text d cores said → map (λ core. Some core) owners ≡ said
     → directory ≡ record { cores = cores; owners = owners; entries = entries_of d owners } → Directs text d cores directory
-directs text d cores head body said owners directory lines headed_by say same is =
-    subst (λ (v : DirectoryView). Directs text d cores v) (sym is)
+directs text d cores said owners directory is same directory_is =
+    subst (λ (v : DirectoryView). Directs text d cores v) (sym directory_is)
     (record {
-      head = head;
-      body = body;
-      owned = say.owned;
-      lines = lines;
-      numbers = headed cores (length d.pipes) head headed_by;
-      body_is = say.are;
-      owners_len = sym (length-map owners (λ (core : ℕ). Some core)) ∙ ap length same ∙ say.owners_are.len;
-      owners = owner_among (length d.pipes) say.owned said owners say.owners_are same;
+      head = is.head;
+      body = is.body;
+      owned = is.say.owned;
+      lines = is.lines;
+      numbers = headed cores (length d.pipes) is.head is.headed_by;
+      body_is = is.say.are;
+      owners_len = sym (length-map owners (λ (core : ℕ). Some core)) ∙ ap length same ∙ is.say.owners_are.len;
+      owners = owner_among (length d.pipes) is.say.owned said owners is.say.owners_are same;
       cores_are = refl;
       entries = refl;
     })
@@ -291,11 +299,10 @@ pub no_text_fault : (text : List ℕ) (d : DistilledView) (cores : ℕ) → (len
 no_text_fault [] d cores none = empty_fault d cores
 no_text_fault (b ∷ bs) d cores none = let never : length (b ∷ bs) ≡ 0 = eqb-true (length (b ∷ bs)) 0 none in absurd (omega (arith, never))
 
-pub missed : (text : List ℕ) (d : DistilledView) (cores : ℕ) (head : List ℕ) (body : List (List ℕ)) (said : List (Option ℕ))
-    (r : Refusal AssignFault) → lines_of text ≡ head ∷ body → is_head cores (length d.pipes) head ≡ true
-    → SayOwners (length d.pipes) cores body said → IfFault r (Misses said) → IfFault r (DirectoryFirst text d cores)
-missed text d cores head body said refusal.NoMemory lines is_on say misses = tt
-missed text d cores head body said (Fault f) lines is_on say misses =
-    fault_behind text d cores head body lines is_on
-    ∙ ap (λ (x : Option AssignFault). option_or x (missing_fault (length d.pipes) body)) say.faultless
-    ∙ missing (length d.pipes) cores body said f say misses
+pub missed : (text : List ℕ) (d : DistilledView) (cores : ℕ) (said : List (Option ℕ)) (r : Refusal AssignFault) → IsText text d cores said
+    → IfFault r (Misses said) → IfFault r (DirectoryFirst text d cores)
+missed text d cores said refusal.NoMemory is misses = tt
+missed text d cores said (Fault f) is misses =
+    fault_behind text d cores is.head is.body is.lines is.headed_by
+    ∙ ap (λ (x : Option AssignFault). option_or x (missing_fault (length d.pipes) is.body)) is.say.faultless
+    ∙ missing (length d.pipes) cores is.body said f is.say misses

@@ -169,24 +169,42 @@ row_of d rows u row are low read =
     ∙ ap (λ (r : Vec ℕ Global). r.items) (sym read))
     (are.rows_are u low)
 
--- pipe n was pushed to the rows of both its ends
-pub both_pushed : (d : DistilledView) (ps : List DistilledPipe) (n : ℕ) (pipe : DistilledPipe) (rows : List (Vec ℕ Global))
-    (row row' other other' : Vec ℕ Global) → ps ≡ d.pipes → KeepsPipeLimits d → n < length ps → pipe ≡ get_or ps n pipe
+-- pipe n is pushed to the row of its first end, and then to that of its second, which may be the same
+pub record Pushes (d : DistilledView) (n : ℕ) (rows : List (Vec ℕ Global)) : Type 0 where
+  pub keeps : KeepsPipeLimits d
+  pub pipes : List DistilledPipe
+  pub pipes_are : pipes ≡ d.pipes
+  pub low : n < length pipes
+  pub pipe : DistilledPipe
+  pub pipe_is : pipe ≡ get_or pipes n pipe
+  pub from_row : Vec ℕ Global
+  pub from_row_is : from_row ≡ get_or rows pipe.from from_row
+  pub from_row_after : Vec ℕ Global
+  pub from_pushed : from_row_after.items ≡ from_row.items ++ n ∷ []
+  pub to_row : Vec ℕ Global
+  pub to_row_is : to_row ≡ get_or (set rows pipe.from from_row_after) pipe.to to_row
+  pub to_row_after : Vec ℕ Global
+  pub to_pushed : to_row_after.items ≡ to_row.items ++ n ∷ []
+
+-- then the rows have one pipe more
+pub both_pushed : (d : DistilledView) (n : ℕ) (rows : List (Vec ℕ Global)) (p : Pushes d n rows)
     → HasRows d.nodes (EndBefore d.pipes n) (row_lists rows)
-    → row ≡ get_or rows pipe.from row → row'.items ≡ row.items ++ n ∷ []
-    → other ≡ get_or (set rows pipe.from row') pipe.to other → other'.items ≡ other.items ++ n ∷ []
-    → HasRows d.nodes (EndBefore d.pipes (n + 1)) (row_lists (set (set rows pipe.from row') pipe.to other'))
-both_pushed d ps n pipe rows row row' other other' same keeps low is had read pushed read' pushed' =
-    pipe_pushed d.pipes n pipe d.nodes (row_lists (set (set rows pipe.from row') pipe.to other')) at
-    (number_pushed d.nodes (λ v q. EndBefore d.pipes n v q ⊎ ((v ≡ pipe.from) × (q ≡ n))) (set rows pipe.from row') pipe.to n other other'
-    (number_pushed d.nodes (EndBefore d.pipes n) rows pipe.from n row row' had ends.from read pushed) ends.to read' pushed')
+    → HasRows d.nodes (EndBefore d.pipes (n + 1)) (row_lists (set (set rows p.pipe.from p.from_row_after) p.pipe.to p.to_row_after))
+both_pushed d n rows p had =
+    pipe_pushed d.pipes n p.pipe d.nodes (row_lists (set (set rows p.pipe.from p.from_row_after) p.pipe.to p.to_row_after)) at
+    (number_pushed d.nodes (λ v q. EndBefore d.pipes n v q ⊎ ((v ≡ p.pipe.from) × (q ≡ n))) (set rows p.pipe.from p.from_row_after) p.pipe.to n
+    p.to_row p.to_row_after
+    (number_pushed d.nodes (EndBefore d.pipes n) rows p.pipe.from n p.from_row p.from_row_after had ends.from p.from_row_is p.from_pushed) ends.to
+    p.to_row_is p.to_pushed)
   where
     within : n < length d.pipes
-    within = let len : length ps ≡ length d.pipes = ap length same in omega (arith, len, low)
+    within = let len : length p.pipes ≡ length d.pipes = ap length p.pipes_are in let low = p.low in omega (arith, len, low)
 
-    at : slice_get d.pipes n ≡ Some pipe
-    at = slice_get_read d.pipes (length d.pipes) n pipe refl within (subst (λ (xs : List DistilledPipe). pipe ≡ get_or xs n pipe) same is)
+    read : p.pipe ≡ get_or d.pipes n p.pipe
+    read = subst (λ (xs : List DistilledPipe). p.pipe ≡ get_or xs n p.pipe) p.pipes_are p.pipe_is
 
-    ends : IsPipeAmong d.nodes pipe
-    ends =
-        subst (IsPipeAmong d.nodes) (sym (subst (λ (xs : List DistilledPipe). pipe ≡ get_or xs n pipe) same is)) (keeps.pipes n pipe within)
+    at : slice_get d.pipes n ≡ Some p.pipe
+    at = slice_get_read d.pipes (length d.pipes) n p.pipe refl within read
+
+    ends : IsPipeAmong d.nodes p.pipe
+    ends = subst (IsPipeAmong d.nodes) (sym read) (p.keeps.pipes n p.pipe within)

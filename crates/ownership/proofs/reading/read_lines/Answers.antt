@@ -21,9 +21,9 @@ lines-init c =
 
 pub returns-in-Err-clause-fault : goal.returns-in-Err-clause-fault
 returns-in-Err-clause-fault c =
-    first_fault_read c.args.pipes c.args.cores c.lines.number (lines_of c.args.text.now) (lines_of c.lines.rest.now)
-    (lines_of c.split_line.result.1.now) c.split_line.result.0.now c.lines.owners.items c.in-Err.fault c.lines.invariant.has
-    c.split_line.ensures.lines
+    first_fault_read c.args.pipes c.args.cores c.lines.number (lines_of c.args.text.now) (lines_of c.split_line.result.1.now)
+    c.split_line.result.0.now c.lines.owners.items c.in-Err.fault
+    (record { now = lines_of c.lines.rest.now; has = c.lines.invariant.has; split = c.split_line.ensures.lines })
     (subst
     (λ (os : List (Option ℕ)). owner_line_fault (length os) c.args.cores c.lines.number (has_owner os) c.split_line.result.0.now ≡ Some c.in-Err.fault)
     c.deref.ensures.value c.in-Err.ensures)
@@ -31,9 +31,10 @@ returns-in-Err-clause-fault c =
 pub lines-preserved : goal.lines-preserved
 lines-preserved c = record {
   has =
-      one_read c.args.pipes c.args.cores c.lines.number (lines_of c.args.text.now) (lines_of c.lines.rest.now)
-      (lines_of c.split_line.result.1.now) c.split_line.result.0.now c.lines.owners.items (line_as_owned c.in-Ok.said) c.lines.invariant.has
-      c.split_line.ensures.lines c.in-Ok.ensures.0
+      one_read c.args.pipes c.args.cores c.lines.number (lines_of c.args.text.now) (lines_of c.split_line.result.1.now)
+      c.split_line.result.0.now c.lines.owners.items (line_as_owned c.in-Ok.said)
+      (record { now = lines_of c.lines.rest.now; has = c.lines.invariant.has; split = c.split_line.ensures.lines })
+      c.in-Ok.ensures.0
       (subst
       (λ (os : List (Option ℕ)). owner_line_fault (length os) c.args.cores c.lines.number (has_owner os) c.split_line.result.0.now ≡ None)
       c.deref.ensures.value c.in-Ok.ensures.1);

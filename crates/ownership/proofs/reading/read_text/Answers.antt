@@ -25,8 +25,15 @@ returns-in_err-owners-clause-fault c =
     subst (λ (os : List (Option ℕ)). IfFault c.in_err-owners.field-0.0 (Misses os)) c.deref.ensures.value c.in_err-owners.ensures.missed in
     let p = err_from_is_err_and c.from_residual-in_err-owners.result c.from_residual-in_err-owners.ensures.1 in
     rw (p.1, p.2)
-    (missed c.args.text.now c.args.distilled.now c.args.cores c.split_line.result.0.now (lines_of c.split_line.result.1.now)
-    c.in_ok-said.said.items c.in_err-owners.field-0.0 c.split_line.ensures.lines head_is say misses)
+    (missed c.args.text.now c.args.distilled.now c.args.cores c.in_ok-said.said.items c.in_err-owners.field-0.0
+    (record {
+      head = c.split_line.result.0.now;
+      body = lines_of c.split_line.result.1.now;
+      lines = c.split_line.ensures.lines;
+      headed_by = head_is;
+      say = say;
+    })
+    misses)
 
 pub of_owners-requires-clause-owners : goal.of_owners-requires-clause-owners
 of_owners-requires-clause-owners c =
@@ -42,6 +49,12 @@ returns-clause-found c =
     let say : SayOwners (length c.args.distilled.now.pipes) c.args.cores (lines_of c.split_line.result.1.now) c.in_ok-said.said.items =
     subst (λ (ps : List DistilledPipe). SayOwners (length ps) c.args.cores (lines_of c.split_line.result.1.now) c.in_ok-said.said.items)
     c.pipes-pipes.ensures.lent c.in_ok-said.ensures.found in
-    directs c.args.text.now c.args.distilled.now c.args.cores c.split_line.result.0.now (lines_of c.split_line.result.1.now)
-    c.in_ok-said.said.items c.in_ok-owners.owners.items c.in_ok-directory.directory c.split_line.ensures.lines head_is say
+    directs c.args.text.now c.args.distilled.now c.args.cores c.in_ok-said.said.items c.in_ok-owners.owners.items c.in_ok-directory.directory
+    (record {
+      head = c.split_line.result.0.now;
+      body = lines_of c.split_line.result.1.now;
+      lines = c.split_line.ensures.lines;
+      headed_by = head_is;
+      say = say;
+    })
     (c.in_ok-owners.ensures.all ∙ c.deref.ensures.value) c.in_ok-directory.ensures

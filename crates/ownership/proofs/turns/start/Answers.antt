@@ -13,9 +13,19 @@ pub returns : goal.returns
 returns c =
     let es : List ℕ = c.edge_nodes-edge_nodes.result.now in
     let v : ℕ = get_or es c.start_place-place.result 0 in
-    started c.args.distilled.now c.args.cores c.args.core v c.row.result.now c.args.owners.now c.in_ok-reach.reach c.add_node.new.self
-    (start_node c.args.distilled.now es c.start_place-place.result c.args.core c.args.cores (length es) c.edge_nodes-edge_nodes.ensures.lent refl
-    c.start_place-place.ensures c.if-place-edge_nodes.false)
-    (c.in_ok-reach.ensures.size ∙ c.nodes.ensures.value) c.in_ok-reach.ensures.empty c.in_ok-reach.ensures.none
-    (subst (λ (d : DistilledView). IsRowOf d.pipes v c.row.result.now) c.requires.incidence c.row.ensures)
-    (free_at_start (length c.args.distilled.now.pipes) c.args.owners.now c.requires.owners) c.in_ok-add_node.ensures
+    started c.args.distilled.now c.args.cores c.args.core c.add_node.new.self
+    (record {
+      node = v;
+      node_is =
+          start_node c.args.distilled.now es c.start_place-place.result c.args.core c.args.cores (length es) c.edge_nodes-edge_nodes.ensures.lent
+          refl c.start_place-place.ensures c.if-place-edge_nodes.false;
+      row = c.row.result.now;
+      row_is = subst (λ (d : DistilledView). IsRowOf d.pipes v c.row.result.now) c.requires.incidence c.row.ensures;
+      owners = c.args.owners.now;
+      free = free_at_start (length c.args.distilled.now.pipes) c.args.owners.now c.requires.owners;
+      old = c.in_ok-reach.reach;
+      size = c.in_ok-reach.ensures.size ∙ c.nodes.ensures.value;
+      empty = c.in_ok-reach.ensures.empty;
+      none = c.in_ok-reach.ensures.none;
+      adds = c.in_ok-add_node.ensures;
+    })

@@ -10,10 +10,24 @@ loop-number-init c =
 
 pub loop-number-preserved : goal.loop-number-preserved
 loop-number-preserved c =
-    both_pushed c.args.distilled.now c.pipes-pipe-items.result.now c.loop-number.number c.pipe-item.result c.loop-number.rows.items
-    c.index_mut.result.now c.push.new.self c.index_mut-in-loop-number.result.now c.push-in-loop-number.new.self
-    c.pipes-pipe-items.ensures.lent c.pipes-pipe-items.ensures.valid c.loop-number-test.true c.pipe-item.is c.loop-number.invariant
-    c.index_mut.ensures.value c.in_ok-push.ensures.items c.index_mut-in-loop-number.ensures.value c.in_ok-push-2.ensures.items
+    both_pushed c.args.distilled.now c.loop-number.number c.loop-number.rows.items
+    (record {
+      keeps = c.pipes-pipe-items.ensures.valid;
+      pipes = c.pipes-pipe-items.result.now;
+      pipes_are = c.pipes-pipe-items.ensures.lent;
+      low = c.loop-number-test.true;
+      pipe = c.pipe-item.result;
+      pipe_is = c.pipe-item.is;
+      from_row = c.index_mut.result.now;
+      from_row_is = c.index_mut.ensures.value;
+      from_row_after = c.push.new.self;
+      from_pushed = c.in_ok-push.ensures.items;
+      to_row = c.index_mut-in-loop-number.result.now;
+      to_row_is = c.index_mut-in-loop-number.ensures.value;
+      to_row_after = c.push-in-loop-number.new.self;
+      to_pushed = c.in_ok-push-2.ensures.items;
+    })
+    c.loop-number.invariant
 
 pub invariant_of-result : goal.invariant_of-result
 invariant_of-result c =

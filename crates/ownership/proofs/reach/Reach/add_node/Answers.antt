@@ -19,5 +19,13 @@ loop-pipe-preserved c = record {
 
 pub returns : goal.returns
 returns c =
-    node_added c.args.node c.args.row.now c.args.owners.now c.args.self.now c.loop-pipe.self c.add.new.self c.loop-pipe.pipe-index
-    c.loop-pipe.invariant.nodes c.add.ensures.size c.add.ensures.added (omega arith) c.loop-pipe.invariant.so_far
+    node_added c.args.node c.args.row.now c.args.owners.now c.args.self.now c.loop-pipe.self
+    (record {
+      marks = c.add.new.self;
+      marks_are = c.loop-pipe.invariant.nodes;
+      size = c.add.ensures.size;
+      marked = c.add.ensures.added;
+      count = c.loop-pipe.pipe-index;
+      whole = omega arith;
+      row_in = c.loop-pipe.invariant.so_far;
+    })

@@ -70,15 +70,31 @@ returns c =
     ∙ after_taken c.args.distilled.now c.args.cores (owned_after c.args.distilled.now c.args.cores c.args.turn)
     (c.args.turn % c.args.cores) c.args.pipe c.requires.pipe))
     (gave c.args.distilled.now c.args.cores (owned_after c.args.distilled.now c.args.cores c.args.turn) c.args.self.now _
-    (c.args.turn % c.args.cores) c.args.pipe c.index-pipes-pipe.result c.row.result.now c.row-2.result.now c.index_mut-reach.result.now
-    c.add_node.new.self c.add_node-2.new.self (mod-lt c.args.turn c.requires.some_core) c.requires.pipe c.requires.before
-    (pipe_at c.args.distilled.now c.pipes.result.now c.args.pipe c.index-pipes-pipe.result c.pipes.ensures.lent
-    (turn_pipe c.args.distilled.now c.args.cores _ _ c.args.pipe c.requires.pipe).0 c.index-pipes-pipe.is)
-    c.index_mut-reach.ensures.value
-    (subst (λ (d : DistilledView). IsRowOf d.pipes c.index-pipes-pipe.result.from c.row.result.now) c.requires.incidence c.row.ensures)
-    (subst (λ (d : DistilledView). IsRowOf d.pipes c.index-pipes-pipe.result.to c.row-2.result.now) c.requires.incidence c.row-2.ensures)
-    (subst (λ (os : List (Option ℕ)). AddsNode c.index-pipes-pipe.result.from c.row.result.now os c.index_mut-reach.result.now c.add_node.new.self)
-    c.deref.ensures.value c.in_ok-add_node.ensures)
-    (subst (λ (os : List (Option ℕ)). AddsNode c.index-pipes-pipe.result.to c.row-2.result.now os c.add_node.new.self c.add_node-2.new.self)
-    c.deref-2.ensures.value added)
-    refl refl refl))
+    (c.args.turn % c.args.cores) c.args.pipe
+    (record {
+      low = mod-lt c.args.turn c.requires.some_core;
+      turn = c.requires.pipe;
+      holds = c.requires.before;
+      ends = c.index-pipes-pipe.result;
+      ends_are =
+          pipe_at c.args.distilled.now c.pipes.result.now c.args.pipe c.index-pipes-pipe.result c.pipes.ensures.lent
+          (turn_pipe c.args.distilled.now c.args.cores _ _ c.args.pipe c.requires.pipe).0 c.index-pipes-pipe.is;
+      from_row = c.row.result.now;
+      from_is = subst (λ (d : DistilledView). IsRowOf d.pipes c.index-pipes-pipe.result.from c.row.result.now) c.requires.incidence c.row.ensures;
+      to_row = c.row-2.result.now;
+      to_is = subst (λ (d : DistilledView). IsRowOf d.pipes c.index-pipes-pipe.result.to c.row-2.result.now) c.requires.incidence c.row-2.ensures;
+      old = c.index_mut-reach.result.now;
+      reach_is = c.index_mut-reach.ensures.value;
+      mid = c.add_node.new.self;
+      first =
+          subst
+          (λ (os : List (Option ℕ)). AddsNode c.index-pipes-pipe.result.from c.row.result.now os c.index_mut-reach.result.now c.add_node.new.self)
+          c.deref.ensures.value c.in_ok-add_node.ensures;
+      new = c.add_node-2.new.self;
+      second =
+          subst (λ (os : List (Option ℕ)). AddsNode c.index-pipes-pipe.result.to c.row-2.result.now os c.add_node.new.self c.add_node-2.new.self)
+          c.deref-2.ensures.value added;
+      owners = refl;
+      reaches = refl;
+      least = refl;
+    })))
