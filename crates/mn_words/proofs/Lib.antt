@@ -1,3 +1,4 @@
+pub mod Absent
 pub mod ColonParts
 pub mod Finding
 pub mod Names

@@ -1,5 +1,5 @@
 -- What a command line asks for.
-use Rattle.std.specs.Prelude.{ℕ, ◌≤◌, Bool, List, Option, length, All}
+use Rattle.std.specs.Prelude.{ℕ, ◌≡◌, ◌≤◌, Bool, List, Option, length, All}
 use Rattle.mn_base.specs.declared.limits.TheConstants.{CHAIN_PIPES_MAX, CORES_MAX, TURNS_MAX}
 use Rattle.mn_base.specs.Ranges.{AreInRange, IsTickLength}
 use Rattle.distill.specs.declared.modes.Mode.{Mode}
@@ -76,3 +76,9 @@ pub record IsRunOrder (order : RunView) : Type 0 where
   pub cores : IsCoreCount order.cores
   pub tick : IsTickLength order.tick_ns
   pub turns : order.turns ≤ TURNS_MAX
+
+-- an order within the limits of `emulate`, whose cores take turns as they come
+pub record IsEmulateOrder (order : RunView) : Type 0 where
+  pub run : IsRunOrder order
+  pub order : order.order ≡ 0
+  pub turns : order.turns ≡ 0

@@ -4,7 +4,7 @@ use Rattle.std.specs.Prelude.{ℕ, true, false, List, [], ◌∷◌, Option, Som
 use Rattle.mn_words.specs.declared.command.Command.{Command}
 use Rattle.mn_words.specs.declared.command.Command.TheVariants as command
 use Rattle.mn_words.specs.declared.order.Order.{Order}
-use Rattle.mn_words.specs.declared.order.Order.TheVariants.{Chain, Distill, Assign, Rehearse}
+use Rattle.mn_words.specs.declared.order.Order.TheVariants.{Chain, Distill, Assign, Rehearse, Emulate}
 use Rattle.mn_words.specs.declared.order.PipeSpec.{PipeSpec}
 use Rattle.mn_words.specs.declared.opt.Opt.TheVariants.{Pipe}
 use Rattle.mn_words.specs.declared.opt.WordsFault.{WordsFault}
@@ -27,7 +27,17 @@ command_of word =
     if bytes_eq word (codes "distill") then Some command.Distill else
     if bytes_eq word (codes "assign") then Some command.Assign else
     if bytes_eq word (codes "rehearse") then Some command.Rehearse else
+    if bytes_eq word (codes "emulate") then Some command.Emulate else
     None
+
+-- the options that a run of a trace over a topology needs, and those that it may have, too
+run_needs : List (List ℕ)
+run_needs = codes "--topology" ∷ codes "--trace" ∷ codes "--out" ∷ codes "--report" ∷ []
+
+run_may_have : List (List ℕ)
+run_may_have =
+    codes "--mode" ∷ codes "--cores" ∷ codes "--seed" ∷ codes "--tick-ns" ∷ codes "--directory" ∷ codes "--cluster-report"
+    ∷ codes "--loss" ∷ []
 
 -- a row for each command: the options that are required, those that may stand, too, and whether there are PIPEs
 unfoldable pub form_of : Command → Form
@@ -47,10 +57,13 @@ form_of command.Assign = record {
   takes_pipes = false;
 }
 form_of command.Rehearse = record {
-  needs = codes "--topology" ∷ codes "--trace" ∷ codes "--out" ∷ codes "--report" ∷ [];
-  may_have =
-      codes "--mode" ∷ codes "--cores" ∷ codes "--seed" ∷ codes "--tick-ns" ∷ codes "--directory" ∷ codes "--cluster-report"
-      ∷ codes "--order" ∷ codes "--turns" ∷ codes "--loss" ∷ [];
+  needs = run_needs;
+  may_have = codes "--order" ∷ codes "--turns" ∷ run_may_have;
+  takes_pipes = false;
+}
+form_of command.Emulate = record {
+  needs = run_needs;
+  may_have = run_may_have;
   takes_pipes = false;
 }
 
@@ -89,7 +102,7 @@ assign_of items = do
   cores ← cores_in items
   Ok (record { topology = text_in (codes "--topology") items; mode = mode; cores = cores })
 
--- the same of the items behind `rehearse`
+-- the same of the items behind `rehearse` or `emulate`
 unfoldable pub run_of : List Item → Result RunView WordsFault
 run_of items = do
   mode ← mode_in items
@@ -130,3 +143,6 @@ order_of command.Assign items = do
 order_of command.Rehearse items = do
   order ← run_of items
   Ok (Rehearse order)
+order_of command.Emulate items = do
+  order ← run_of items
+  Ok (Emulate order)

@@ -10,6 +10,7 @@ pub enum Command {
     Distill,
     Assign,
     Rehearse,
+    Emulate,
 }
 
 /// The command of a word.
@@ -25,6 +26,8 @@ pub fn command_of(word: &str) -> Option<Command>
         Some(Command::Assign)
     } else if word == "rehearse" {
         Some(Command::Rehearse)
+    } else if word == "emulate" {
+        Some(Command::Emulate)
     } else {
         None
     }
@@ -54,14 +57,27 @@ pub fn form_of(command: Command) -> Form
         Command::Rehearse => Form {
             needs: &["--topology", "--trace", "--out", "--report"],
             may_have: &[
+                "--order",
+                "--turns",
                 "--mode",
                 "--cores",
                 "--seed",
                 "--tick-ns",
                 "--directory",
                 "--cluster-report",
-                "--order",
-                "--turns",
+                "--loss",
+            ],
+            takes_pipes: false,
+        },
+        Command::Emulate => Form {
+            needs: &["--topology", "--trace", "--out", "--report"],
+            may_have: &[
+                "--mode",
+                "--cores",
+                "--seed",
+                "--tick-ns",
+                "--directory",
+                "--cluster-report",
                 "--loss",
             ],
             takes_pipes: false,

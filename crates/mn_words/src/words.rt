@@ -2,6 +2,7 @@ ghost use Rattle.std.specs.Prelude.{◌≡◌, ◌≤◌, length, Some, Ok, Err,
 ghost use Rattle.mn_base.specs.Refused.{IfFault};
 ghost use Rattle.mn_words.specs.Form.{bare_words, has_form};
 ghost use Rattle.mn_words.specs.Items.{items_of};
+ghost use Rattle.mn_words.specs.Options.{order_in, turns_in};
 ghost use Rattle.mn_words.specs.Order.{IsAssignOrder, IsChainOrder, IsDistillOrder, IsRunOrder};
 ghost use Rattle.mn_words.specs.TheCommands.{form_of, order_of, chain_of, distill_of, assign_of, run_of};
 ghost use Rattle.mn_words.specs.Words.{ordered, texts, IsInRange};
@@ -25,8 +26,9 @@ use std::alloc::Global;
 /// - `distill --topology F --mode M (hop) --tick-ns N (100000)` prints the pipes of a distilled topology.
 /// - `assign --topology F --mode M (hop) --cores N (1)` prints which core owns each of these pipes.
 /// - `rehearse --topology F --trace F --out F --report F --mode M (hop) --cores N (1) --seed N (0) --tick-ns N (100000)
-///   --directory F --cluster-report B (no) --order N (0) --turns N (0) --loss L (packet)` replays a trace over a distilled
+///   --directory F --cluster-report B (no) --loss L (packet) --order N (0) --turns N (0)` replays a trace over a distilled
 ///   topology.
+/// - `emulate` does the same on a thread for each core; it has the options of `rehearse` but for `--order` and `--turns`.
 ///
 /// What stands in brackets holds where the option is left out; the others are required, but for `--directory`. Options and PIPEs
 /// may be mixed. An option is `--name value`, whatever the value's word is, or `--name=value`, parted at the
@@ -71,6 +73,7 @@ fn order_of(alloc: Global, command: Command, words: Rest) -> Result<Order, Refus
         Command::Distill => Ok(Order::Distill(distill_of(alloc, words)?)),
         Command::Assign => Ok(Order::Assign(assign_of(alloc, words)?)),
         Command::Rehearse => Ok(Order::Rehearse(run_of(alloc, words)?)),
+        Command::Emulate => Ok(Order::Emulate(run_of(alloc, words)?)),
     }
 }
 
@@ -135,6 +138,8 @@ fn assign_of(alloc: Global, words: Rest) -> Result<AssignOrder, Refusal<WordsFau
 fn run_of(alloc: Global, words: Rest) -> Result<RunOrder, Refusal<WordsFault>>
     ensures order { IfOk result (λ order. run_of (items_of words.entry) ≡ Ok order) }
     ensures ranges { IfOk result IsRunOrder }
+    ensures number { IfOk result (λ order. order_in (items_of words.entry) ≡ Ok order.order) }
+    ensures turns { IfOk result (λ order. turns_in (items_of words.entry) ≡ Ok order.turns) }
     ensures fault { IfErr result (λ e. IfFault e (λ fault. run_of (items_of words.entry) ≡ Err fault)) }
 {
     let mode = mode_in(words.again())?;
