@@ -1,11 +1,12 @@
 -- What a command line asks for.
 use Rattle.std.specs.Prelude.{ℕ, ◌≡◌, ◌≤◌, Bool, List, Option, length, All}
-use Rattle.mn_base.specs.declared.limits.TheConstants.{CHAIN_PIPES_MAX, CORES_MAX, TURNS_MAX}
+use Rattle.mn_base.specs.declared.limits.TheConstants.{CHAIN_PIPES_MAX, CORES_MAX, TURNS_MAX, WORKLOAD_PACKETS_MAX}
 use Rattle.mn_base.specs.Ranges.{AreInRange, IsTickLength}
 use Rattle.distill.specs.declared.modes.Mode.{Mode}
 use Rattle.distill.specs.Modes.{IsMode}
 use Rattle.journal.specs.declared.setup.LossBy.{LossBy}
 use Rattle.mn_words.specs.declared.order.PipeSpec.{PipeSpec}
+use Rattle.mn_words.specs.declared.order.WorkloadOrder.{WorkloadOrder}
 
 -- what contracts see of a `ChainOrder`
 pub record ChainView : Type 0 where
@@ -82,3 +83,9 @@ pub record IsEmulateOrder (order : RunView) : Type 0 where
   pub run : IsRunOrder order
   pub order : order.order ≡ 0
   pub turns : order.turns ≡ 0
+
+-- an order within the limits of `workload`
+pub record IsWorkloadOrder (order : WorkloadOrder) : Type 0 where
+  pub least : 1 ≤ order.packets
+  pub most : order.packets ≤ WORKLOAD_PACKETS_MAX
+  pub cores : IsCoreCount order.cores

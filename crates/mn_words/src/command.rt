@@ -11,6 +11,7 @@ pub enum Command {
     Assign,
     Rehearse,
     Emulate,
+    Workload,
 }
 
 /// The command of a word.
@@ -28,6 +29,8 @@ pub fn command_of(word: &str) -> Option<Command>
         Some(Command::Rehearse)
     } else if word == "emulate" {
         Some(Command::Emulate)
+    } else if word == "workload" {
+        Some(Command::Workload)
     } else {
         None
     }
@@ -80,6 +83,11 @@ pub fn form_of(command: Command) -> Form
                 "--cluster-report",
                 "--loss",
             ],
+            takes_pipes: false,
+        },
+        Command::Workload => Form {
+            needs: &["--number"],
+            may_have: &["--packets", "--cores"],
             takes_pipes: false,
         },
     }

@@ -183,6 +183,17 @@ impl Model for RunOrder {
     } };
 }
 
+/// What `workload` is asked for.
+#[derive(Clone, Copy, Debug, PartialEq, Eq)]
+pub struct WorkloadOrder {
+    /// The number that topology and trace are generated from, and the seed of the loss words.
+    pub number: u64,
+    /// How many packets the trace has, from 1 to 200,000.
+    pub packets: u32,
+    /// How many cores run.
+    pub cores: u32,
+}
+
 /// What a command line asks for.
 #[derive(Drop)]
 pub enum Order {
@@ -196,4 +207,6 @@ pub enum Order {
     Rehearse(RunOrder),
     /// The same, each core on a thread of its own.
     Emulate(RunOrder),
+    /// Replays a generated trace over a generated topology, and prints a summary.
+    Workload(WorkloadOrder),
 }

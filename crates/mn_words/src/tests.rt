@@ -1,6 +1,8 @@
 //! Lines of words, with what comes of each by the rules.
 use crate::opt::{Opt, WordsFault};
-use crate::order::{AssignOrder, ChainOrder, DistillOrder, Order, PipeSpec, RunOrder};
+use crate::order::{
+    AssignOrder, ChainOrder, DistillOrder, Order, PipeSpec, RunOrder, WorkloadOrder,
+};
 use crate::words::read_words;
 use distill::Mode;
 use journal::LossBy;
@@ -68,13 +70,20 @@ fn emulate_order(rt: &(impl Abort + AllocGlobal), line: &str) -> RunOrder {
     }
 }
 
+fn workload_order(rt: &(impl Abort + AllocGlobal), line: &str) -> WorkloadOrder {
+    match order_of(rt, line) {
+        Order::Workload(order) => order,
+        _ => panic!(rt; "no order of a workload: {line}"),
+    }
+}
+
 #[test]
 fn no_words_and_words_that_are_no_command(rt: HostRuntime) -> Result<(), Fail> {
     let none = read_words(rt.alloc(), &[]).err();
     assert_eq!(rt; none, Some(Refusal::Fault(WordsFault::Command)));
     let lines = "\
 emulat
-workload --number 7
+Workload --number 7
 --trace t
 --help
 distil --topology t
@@ -139,7 +148,18 @@ emulate --topology g --trace t --out o --report r --order 0
 emulate --topology g --trace t --out o --report r --turns=0
 emulate --topology g --trace t --out o --report r 1000:0:1:0
 emulate --topology g --trace t --out o --report r --directory
-emulate --topology g --trace t --out o --report r --loss";
+emulate --topology g --trace t --out o --report r --loss
+workload
+workload --packets 14 --cores 2
+workload --number
+workload --number 7 --packets
+workload --number 7 --seed 7
+workload --number 7 --mode hop
+workload --number 7 --tick-ns 100000
+workload --number 7 --loss packet
+workload --number 7 --out o
+workload --number 7 14
+workload 7";
     assert_faults(&rt, lines, WordsFault::Form);
     Ok(())
 }
@@ -198,7 +218,9 @@ rehearse --topology g --trace t --out o --report r --seed 1 --seed 1
 rehearse --topology g --directory d --trace t --directory= --out o --report r
 rehearse --topology g --trace t --out o --report r --order 1 --turns 1 --order 2
 emulate --topology g --trace t --out o --report r --cores 2 --cluster-report yes --cores=2
-emulate --topology g --trace t --out o --report r --directory= --directory d";
+emulate --topology g --trace t --out o --report r --directory= --directory d
+workload --number 7 --number=7
+workload --cores 4 --number 7 --cores 4";
     assert_faults(&rt, lines, WordsFault::Form);
     Ok(())
 }
@@ -292,7 +314,9 @@ rehearse --topology g --trace t --out o --report r --cores 17
 rehearse --topology g --trace t --out o --report r --cores=17
 emulate --topology g --trace t --out o --report r --cores 17
 emulate --topology g --trace t --out o --report r --cores=17
-emulate --topology g --trace t --out o --report r --cores --cluster-report";
+emulate --topology g --trace t --out o --report r --cores --cluster-report
+workload --number x --packets 0 --cores 0
+workload --packets=x --number= --cores 17";
     assert_faults(&rt, cores, WordsFault::Value(Opt::Cores));
     let mode = "assign --cores 17 --topology t --mode walk:0";
     assert_faults(&rt, mode, WordsFault::Value(Opt::Mode));
@@ -354,6 +378,26 @@ emulate --loss=";
         ).expect(&rt, "memory");
         assert_faults(&rt, whole.as_str(), WordsFault::Value(opt));
     }
+    Ok(())
+}
+
+#[test]
+fn the_first_wrong_value_of_a_workload(rt: HostRuntime) -> Result<(), Fail> {
+    let numbers = "\
+workload --number x
+workload --number=
+workload --number -1
+workload --number 18446744073709551616
+workload --number --packets --packets 0
+workload --packets 200001 --cores 16 --number 7.";
+    assert_faults(&rt, numbers, WordsFault::Value(Opt::Number));
+    let packets = "\
+workload --number 7 --packets 0
+workload --number 7 --packets 200001
+workload --number 7 --packets=
+workload --packets 18446744073709551616 --number 7
+workload --packets --number --number 7";
+    assert_faults(&rt, packets, WordsFault::Value(Opt::Packets));
     Ok(())
 }
 
@@ -447,6 +491,30 @@ fn an_emulation_with_all_options(rt: HostRuntime) -> Result<(), Fail> {
     assert_eq!(rt; order.order, 0);
     assert_eq!(rt; order.turns, 0);
     assert_eq!(rt; order.loss, LossBy::Arrival);
+    Ok(())
+}
+
+#[test]
+fn what_workload_is_asked_for(rt: HostRuntime) -> Result<(), Fail> {
+    let orders = [
+        ("workload --number 0", 0, 20_000, 4),
+        ("workload --packets=1 --number 7 --cores 1", 7, 1, 1),
+        (
+            "workload --cores=16 --packets 200000 --number=18446744073709551615",
+            u64::MAX,
+            200_000,
+            16,
+        ),
+    ];
+    for (line, number, packets, cores) in orders {
+        let found = workload_order(&rt, line);
+        let wanted = WorkloadOrder {
+            number,
+            packets,
+            cores,
+        };
+        assert_eq!(rt; found, wanted, "at {line}");
+    }
     Ok(())
 }
 
