@@ -81,7 +81,7 @@ pub record IsRunOrder (order : RunView) : Type 0 where
 -- an order within the limits of `emulate`, whose cores take turns as they come
 pub record IsEmulateOrder (order : RunView) : Type 0 where
   pub run : IsRunOrder order
-  pub order : order.order ≡ 0
+  pub number : order.order ≡ 0
   pub turns : order.turns ≡ 0
 
 -- an order within the limits of `workload`

@@ -33,10 +33,10 @@ command_of word =
     None
 
 -- the options that a run of a trace over a topology needs, and those that it may have, too
-run_needs : List (List ℕ)
+abbrev pub run_needs : List (List ℕ)
 run_needs = codes "--topology" ∷ codes "--trace" ∷ codes "--out" ∷ codes "--report" ∷ []
 
-run_may_have : List (List ℕ)
+abbrev pub run_may_have : List (List ℕ)
 run_may_have =
     codes "--mode" ∷ codes "--cores" ∷ codes "--seed" ∷ codes "--tick-ns" ∷ codes "--directory" ∷ codes "--cluster-report"
     ∷ codes "--loss" ∷ []
