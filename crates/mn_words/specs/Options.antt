@@ -60,5 +60,5 @@ abbrev pub text_in : List ℕ → List Item → List ℕ
 text_in name items = text_or_empty (value_of name items)
 
 -- the number of a workload, which stands, too
-abbrev pub number_in : List Item → Result ℕ WordsFault
-number_in items = ok_or (decimal_of (text_in (codes "--number") items)) (Value opt.Number)
+abbrev pub workload_number_in : List Item → Result ℕ WordsFault
+workload_number_in items = ok_or (decimal_of (text_in (codes "--number") items)) (Value opt.Number)

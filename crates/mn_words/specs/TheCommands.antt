@@ -12,7 +12,7 @@ use Rattle.mn_words.specs.declared.opt.WordsFault.{WordsFault}
 use Rattle.mn_words.specs.declared.opt.WordsFault.TheVariants.{Value}
 use Rattle.mn_words.specs.Form.{Form, value_of, bare_words}
 use Rattle.mn_words.specs.Items.{Item}
-use Rattle.mn_words.specs.Options.{mode_in, cores_in, seed_in, tick_in, cluster_report_in, order_in, turns_in, number_in, packets_in, loss_in, text_in}
+use Rattle.mn_words.specs.Options.{mode_in, cores_in, seed_in, tick_in, cluster_report_in, order_in, turns_in, workload_number_in, packets_in, loss_in, text_in}
 use Rattle.mn_words.specs.Order.{ChainView, DistillView, AssignView, RunView}
 use Rattle.mn_words.specs.Values.{chain_pipes}
 
@@ -140,7 +140,7 @@ run_of items = do
 unfoldable pub workload_of : List Item → Result WorkloadOrder WordsFault
 workload_of items = do
   cores ← cores_in 4 items
-  number ← number_in items
+  number ← workload_number_in items
   packets ← packets_in items
   Ok (record { number = number; packets = packets; cores = cores })
 

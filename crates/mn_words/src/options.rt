@@ -4,7 +4,7 @@ ghost use Rattle.mn_base.specs.Ranges.{IsTickLength};
 ghost use Rattle.distill.specs.Modes.{IsMode};
 ghost use Rattle.mn_words.specs.Form.{value_of};
 ghost use Rattle.mn_words.specs.Items.{items_of};
-ghost use Rattle.mn_words.specs.Options.{mode_in, cores_in, seed_in, tick_in, cluster_report_in, order_in, turns_in, number_in, packets_in, loss_in, text_in};
+ghost use Rattle.mn_words.specs.Options.{mode_in, cores_in, seed_in, tick_in, cluster_report_in, order_in, turns_in, workload_number_in, packets_in, loss_in, text_in};
 ghost use Rattle.mn_words.specs.Order.{IsCoreCount};
 
 use crate::form::value_of;
@@ -100,8 +100,8 @@ pub fn turns_in(words: Rest) -> Result<u32, WordsFault>
 }
 
 /// `--number`: the number of a workload, which stands.
-pub fn number_in(words: Rest) -> Result<u64, WordsFault>
-    ensures { result ≡ number_in (items_of words.entry) }
+pub fn workload_number_in(words: Rest) -> Result<u64, WordsFault>
+    ensures { result ≡ workload_number_in (items_of words.entry) }
 {
     let text = value_of(words, "--number").unwrap_or("");
     read_u64(text.as_bytes()).ok_or(WordsFault::Value(Opt::Number))

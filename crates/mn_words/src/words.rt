@@ -11,7 +11,7 @@ use crate::command::{Command, command_of, form_of};
 use crate::opt::WordsFault;
 use crate::options::{
     WORKLOAD_CORES_DEFAULT, cluster_report_in, cores_in, file_if_named, file_in, loss_in, mode_in,
-    number_in, order_in, packets_in, seed_in, tick_in, turns_in,
+    order_in, packets_in, seed_in, tick_in, turns_in, workload_number_in,
 };
 use crate::order::{AssignOrder, ChainOrder, DistillOrder, Order, RunOrder, WorkloadOrder};
 use crate::pipes::chain_pipes;
@@ -180,7 +180,7 @@ fn workload_of(words: Rest) -> Result<WorkloadOrder, WordsFault>
     ensures ranges { IfOk result IsWorkloadOrder }
 {
     let cores = cores_in(words.again(), WORKLOAD_CORES_DEFAULT)?;
-    let number = number_in(words.again())?;
+    let number = workload_number_in(words.again())?;
     let packets = packets_in(words)?;
     Ok(WorkloadOrder {
         number,

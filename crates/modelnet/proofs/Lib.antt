@@ -14,6 +14,7 @@ pub mod OneRun
 pub mod OneToOne
 pub mod OtherCores
 pub mod Outputs
+pub mod Plainly
 pub mod RunReads
 pub mod RunSound
 pub mod RunWrites

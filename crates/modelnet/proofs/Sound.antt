@@ -1,7 +1,7 @@
 -- The commands are sound, and so a command line is answered exactly.
 use Rattle.std.proofs.Common.{◌≡◌, ℕ, List, Ok, Err, refl, sym, ◌∙◌, ap, subst, inl, inr}
 use Rattle.mn_words.specs.declared.order.Order.{Order}
-use Rattle.mn_words.specs.declared.order.Order.TheVariants.{Chain, Distill, Assign, Rehearse}
+use Rattle.mn_words.specs.declared.order.Order.TheVariants.{Chain, Distill, Assign, Rehearse, Emulate}
 use Rattle.mn_words.specs.declared.opt.WordsFault.{WordsFault}
 use Rattle.mn_words.specs.Words.{ordered}
 use Rattle.core_loop.specs.TallyView.{TallyView}
@@ -23,6 +23,7 @@ is_sound limits (Chain order) = chain_is_sound limits order
 is_sound limits (Distill order) = distill_is_sound limits order
 is_sound limits (Assign order) = assign_is_sound limits order
 is_sound limits (Rehearse order) = run_is_sound limits order
+is_sound limits (Emulate order) = run_is_sound limits order
 
 -- words ask for one order
 one_order : (asked : Asked) (one other : Order) → asked ≡ Ok one → asked ≡ Ok other → one ≡ other

@@ -3,7 +3,7 @@ use Rattle.std.specs.Prelude.{◌≡◌, ◌≤◌, ℕ, Bool, true, false, List
 use Rattle.mn_base.specs.declared.limits.TheConstants.{TOPOLOGY_BYTES_MAX, TRACE_BYTES_MAX, DIRECTORY_BYTES_MAX}
 use Rattle.mn_edge.specs.declared.role.Role.TheVariants.{Topology, Trace, Directory, Out, Report, Screen}
 use Rattle.mn_words.specs.declared.order.Order.{Order}
-use Rattle.mn_words.specs.declared.order.Order.TheVariants.{Chain, Distill, Assign, Rehearse}
+use Rattle.mn_words.specs.declared.order.Order.TheVariants.{Chain, Distill, Assign, Rehearse, Emulate}
 use Rattle.mn_words.specs.Order.{ChainView, DistillView, AssignView, RunView}
 use Rattle.distill.specs.declared.modes.Mode.{Mode}
 use Rattle.pcapng_in.specs.declared.fault.CaptureFault.TheVariants.{Pcap, Ng}
@@ -146,6 +146,7 @@ row_of limits (Chain order) = chain_command limits order
 row_of limits (Distill order) = distill_command limits order
 row_of limits (Assign order) = assign_command limits order
 row_of limits (Rehearse order) = run_command limits order
+row_of limits (Emulate order) = run_command limits order
 
 -- the most bytes that are read of each role
 abbrev pub usual_limits : ReadLimits
