@@ -10,7 +10,7 @@ use Rattle.mn_words.specs.Words.{ordered}
 use Rattle.mn_words.proofs.Asking.{emulates_by_name}
 use Rattle.modelnet.specs.declared.read_limits.ReadLimits.{ReadLimits}
 use Rattle.modelnet.specs.declared.status.Status.TheVariants.{BadWords}
-use Rattle.modelnet.specs.Answers.{Asked, IsPlain, Answers, Tallies, asks_to_emulate, plainly_ordered}
+use Rattle.modelnet.specs.Answers.{Asked, WantsNoThreads, Answers, Tallies, asks_to_emulate, plainly_ordered}
 use Rattle.modelnet.specs.Commands.{Host}
 
 -- `emulate` is no command there
@@ -35,10 +35,10 @@ asks_by_name [] order is = absurd cc
 asks_by_name (first ∷ words) order is = emulates_by_name first words order is
 
 -- and for no emulation
-pub is_plain : (words : List (List ℕ)) (order : Order) → asks_to_emulate words ≡ false → ordered words ≡ Ok order → IsPlain order
-is_plain words (Chain order) other is = tt
-is_plain words (Distill order) other is = tt
-is_plain words (Assign order) other is = tt
-is_plain words (Rehearse order) other is = tt
-is_plain words (Emulate order) other is = absurd (true≢false (sym (asks_by_name words order is) ∙ other))
-is_plain words (Workload order) other is = tt
+pub wants_no_threads : (words : List (List ℕ)) (order : Order) → asks_to_emulate words ≡ false → ordered words ≡ Ok order → WantsNoThreads order
+wants_no_threads words (Chain order) other is = tt
+wants_no_threads words (Distill order) other is = tt
+wants_no_threads words (Assign order) other is = tt
+wants_no_threads words (Rehearse order) other is = tt
+wants_no_threads words (Emulate order) other is = absurd (true≢false (sym (asks_by_name words order is) ∙ other))
+wants_no_threads words (Workload order) other is = tt

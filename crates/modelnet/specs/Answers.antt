@@ -29,9 +29,9 @@ abbrev pub plainly_ordered : List (List ℕ) → Asked
 plainly_ordered words = if asks_to_emulate words then Err Command else ordered words
 
 -- an order that wants no threads
-abbrev pub IsPlain : Order → Type 0
-IsPlain (Emulate order) = ⊥
-IsPlain order = Unit {0}
+abbrev pub WantsNoThreads : Order → Type 0
+WantsNoThreads (Emulate order) = ⊥
+WantsNoThreads order = Unit {0}
 
 -- the words are an order, and this is the answer of its command
 pub record IsOrdered (limits : ReadLimits) (asked : Asked) (old new : Host) (answer : Status) : Type 0 where

@@ -1,6 +1,6 @@
 ghost use Rattle.std.specs.Prelude.{◌≡◌, false};
 ghost use Rattle.mn_edge.specs.declared.role.Role.{Role};
-ghost use Rattle.modelnet.specs.Answers.{Answers, IsExact, IsPlain, Tallies, asks_to_emulate, plainly_ordered};
+ghost use Rattle.modelnet.specs.Answers.{Answers, IsExact, WantsNoThreads, Tallies, asks_to_emulate, plainly_ordered};
 ghost use Rattle.modelnet.specs.Commands.{Answered, TallyAfter, status_of};
 ghost use Rattle.modelnet.specs.TheCommands.{row_of, usual_limits, AreWithinUsual};
 ghost use Rattle.mn_words.specs.Words.{texts, IsInRange};
@@ -79,7 +79,7 @@ fn command<H: Host>(
     tally: &mut Tally,
 ) -> Status
     requires inactive { (role : Role) → (H.part host.old role).active ≡ false }
-    requires plain { IsPlain order.now }
+    requires plain { WantsNoThreads order.now }
     requires ranges { IsInRange order.now }
     requires limits { AreWithinUsual limits.now }
     ensures answered { Answered (row_of limits.now order.now) (H.part host.old) (H.part host.new) result }

@@ -383,8 +383,14 @@ fn words_that_are_no_order_are_refused(rt: HostRuntime) {
     let mut host = host(&rt, &ONE_PACKET, &[], 8, 4_096);
     let status = plain(rt.alloc(), &[], &mut host, &mut Tally::new());
     assert_eq!(rt; status, Status::BadWords(WordsFault::Command));
-    let command = Status::BadWords(WordsFault::Command);
-    assert_stops(&rt, "emulate", &ONE_PACKET, &[], 4_096, command, 0);
+    for line in [
+        "emulate",
+        "emulate --topology g --trace t --out o --report r --cores 17",
+        "emulate --topology g --trace t --out o --report r",
+    ] {
+        let command = Status::BadWords(WordsFault::Command);
+        assert_stops(&rt, line, &ONE_PACKET, &[], 4_096, command, 0);
+    }
     let form = Status::BadWords(WordsFault::Form);
     assert_stops(&rt, "chain --trace t", &ONE_PACKET, &[], 4_096, form, 0);
     let line = "chain --trace t --out o --report r 8000000:5000:1001:0";
