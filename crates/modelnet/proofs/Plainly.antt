@@ -1,17 +1,13 @@
 -- What words ask for where there are no threads.
-use Rattle.std.proofs.Common.{◌≡◌, ℕ, Bool, true, false, cond, List, [], ◌∷◌, Ok, Err, refl, sym, ◌∙◌, subst}
+use Rattle.std.proofs.Common.{◌≡◌, ℕ, Bool, true, false, cond, List, [], ◌∷◌, Ok, Err, refl, sym, ◌∙◌}
 use Rattle.std.proofs.lemmas.Bool.{true≢false}
-use Rattle.core_loop.specs.TallyView.{TallyView}
 use Rattle.mn_words.specs.declared.opt.WordsFault.TheVariants.{Command}
 use Rattle.mn_words.specs.declared.order.Order.{Order}
 use Rattle.mn_words.specs.declared.order.Order.TheVariants.{Chain, Distill, Assign, Rehearse, Emulate, Workload}
 use Rattle.mn_words.specs.Order.{RunView}
 use Rattle.mn_words.specs.Words.{ordered}
 use Rattle.mn_words.proofs.Asking.{emulates_by_name}
-use Rattle.modelnet.specs.declared.read_limits.ReadLimits.{ReadLimits}
-use Rattle.modelnet.specs.declared.status.Status.TheVariants.{BadWords}
-use Rattle.modelnet.specs.Answers.{Asked, WantsNoThreads, Answers, Tallies, asks_to_emulate, plainly_ordered}
-use Rattle.modelnet.specs.Commands.{Host}
+use Rattle.modelnet.specs.Answers.{WantsNoThreads, asks_to_emulate, plainly_ordered}
 
 -- `emulate` is no command there
 pub emulate_is_none : (words : List (List ℕ)) → asks_to_emulate words ≡ true → plainly_ordered words ≡ Err Command
