@@ -24,3 +24,5 @@ pub mod Tallied
 pub mod TopologyRefused
 pub mod TopologySound
 pub mod WorldResults
+pub mod WorkloadSound
+pub mod WorkloadSteps

@@ -11,6 +11,7 @@ use crate::distill_command::distill;
 use crate::read_limits::{ReadLimits, usual_limits};
 use crate::rehearse_command::rehearse;
 use crate::status::Status;
+use crate::workload_command::summarise;
 use core_loop::Tally;
 use mn_base::Refusal;
 use mn_edge::Host;
@@ -91,6 +92,7 @@ fn command<H: Host>(
         Order::Assign(order) => ended(assign(alloc, limits, order, host)),
         Order::Rehearse(order) => ended(rehearse(alloc, limits, order, host, tally)),
         Order::Emulate(_) => unreachable!(),
+        Order::Workload(order) => ended(summarise(alloc, order, host, tally)),
     }
 }
 

@@ -27,6 +27,7 @@ ghost use Rattle.mn_edge.specs.MemoryHostView.{stream_of};
 mod assigning;
 mod bursts;
 mod distilling;
+mod generating;
 mod pcapng;
 mod refusing;
 mod rehearsing;
