@@ -20,6 +20,9 @@
 // | TooLarge(Trace) | a_trace_above_its_limit_is_too_large | | | inputs_above_their_limits_are_too_large |
 // | TooLarge(Directory) | | | | inputs_above_their_limits_are_too_large |
 // | BadCapture | pcapng::a_cut_block_is_refused_and_nothing_is_written | | | each_input_is_refused_by_its_first_fault |
+//
+// `workload` reads no role; in `generating`: Done comes in summaries_are_the_same_on_any_number_of_cores, WriteFault(Screen) in
+// a_failed_write_leaves_a_front_of_the_summary.
 ghost use Rattle.std.specs.Prelude.{◌≡◌, ◌≤◌, false};
 ghost use Rattle.mn_edge.specs.declared.role.Role.{Role};
 ghost use Rattle.mn_edge.specs.MemoryHostView.{stream_of};

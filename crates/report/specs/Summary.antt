@@ -8,8 +8,8 @@ use Rattle.report.specs.declared.summary.Generated.{Generated}
 use Rattle.report.specs.Report.{line, packets_line}
 
 -- the greatest tick at which a packet left, or 0
-abbrev pub last_tick : List Leaving → ℕ
-last_tick leaving = fold (λ tick left. max tick left.tick) 0 leaving
+abbrev pub last_leaving_tick : List Leaving → ℕ
+last_leaving_tick leaving = fold (λ tick left. max tick left.tick) 0 leaving
 
 -- the number that the input stands for, and how many packets it has
 abbrev pub number_line : ℕ → ℕ → List ℕ
@@ -28,4 +28,4 @@ summary_text input o unbounds =
     number_line input.number input.packets
     ++ lengths_line input.gml_len input.trace_len
     ++ packets_line (length o.leaving) (length o.dropped) (length unbounds)
-    ++ last_tick_line (last_tick o.leaving)
+    ++ last_tick_line (last_leaving_tick o.leaving)

@@ -1,5 +1,5 @@
 ghost use Rattle.std.specs.Prelude.{◌≡◌, ◌++◌, max, IfOk, OnOk, string_bytes};
-ghost use Rattle.report.specs.Summary.{number_line, lengths_line, last_tick, last_tick_line, summary_text};
+ghost use Rattle.report.specs.Summary.{number_line, lengths_line, last_leaving_tick, last_tick_line, summary_text};
 
 use crate::lines::write_packets;
 use mn_base::{Bytes, NoMemory, Unbound};
@@ -41,7 +41,7 @@ pub fn print_summary(
     write_number(&mut text, input.number, input.packets)?;
     write_lengths(&mut text, input.gml_len, input.trace_len)?;
     write_packets(&mut text, &outcome.leaving, &outcome.dropped, unbounds)?;
-    write_last_tick(&mut text, last_tick_of(&outcome.leaving))?;
+    write_last_tick(&mut text, last_leaving_tick_of(&outcome.leaving))?;
     Ok(Bytes::from_vec(text.into_bytes()))
 }
 
@@ -67,8 +67,8 @@ fn write_last_tick(text: &mut String, tick: u64) -> Result<(), NoMemory>
 }
 
 /// The greatest tick at which a packet left, or 0.
-fn last_tick_of(leaving: &[Leaving]) -> u64
-    ensures { result ≡ last_tick leaving.now }
+fn last_leaving_tick_of(leaving: &[Leaving]) -> u64
+    ensures { result ≡ last_leaving_tick leaving.now }
 {
     let mut last = 0;
     for left in leaving {
