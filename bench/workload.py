@@ -72,4 +72,5 @@ def main():
         print(name, len(text), f"{fnv(text):#018x}")
 
 
-main()
+if __name__ == "__main__":
+    main()

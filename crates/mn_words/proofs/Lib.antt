@@ -1,3 +1,5 @@
+pub mod Absent
+pub mod Asking
 pub mod ColonParts
 pub mod Finding
 pub mod Names

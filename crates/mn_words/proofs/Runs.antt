@@ -10,7 +10,7 @@ use Rattle.mn_words.specs.TheCommands.{run_of}
 -- each field of an order is what the items say of it
 pub record Says (items : List Item) (run : RunView) : Type 0 where
   pub mode : mode_in items ≡ Ok run.mode
-  pub cores : cores_in items ≡ Ok run.cores
+  pub cores : cores_in 1 items ≡ Ok run.cores
   pub seed : seed_in items ≡ Ok run.seed
   pub tick_ns : tick_in items ≡ Ok run.tick_ns
   pub cluster_report : cluster_report_in items ≡ Ok run.cluster_report

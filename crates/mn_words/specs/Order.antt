@@ -1,11 +1,12 @@
 -- What a command line asks for.
-use Rattle.std.specs.Prelude.{ℕ, ◌≤◌, Bool, List, Option, length, All}
-use Rattle.mn_base.specs.declared.limits.TheConstants.{CHAIN_PIPES_MAX, CORES_MAX, TURNS_MAX}
+use Rattle.std.specs.Prelude.{ℕ, ◌≡◌, ◌≤◌, Bool, List, Option, length, All}
+use Rattle.mn_base.specs.declared.limits.TheConstants.{CHAIN_PIPES_MAX, CORES_MAX, TURNS_MAX, WORKLOAD_PACKETS_MAX}
 use Rattle.mn_base.specs.Ranges.{AreInRange, IsTickLength}
 use Rattle.distill.specs.declared.modes.Mode.{Mode}
 use Rattle.distill.specs.Modes.{IsMode}
 use Rattle.journal.specs.declared.setup.LossBy.{LossBy}
 use Rattle.mn_words.specs.declared.order.PipeSpec.{PipeSpec}
+use Rattle.mn_words.specs.declared.order.WorkloadOrder.{WorkloadOrder}
 
 -- what contracts see of a `ChainOrder`
 pub record ChainView : Type 0 where
@@ -76,3 +77,15 @@ pub record IsRunOrder (order : RunView) : Type 0 where
   pub cores : IsCoreCount order.cores
   pub tick : IsTickLength order.tick_ns
   pub turns : order.turns ≤ TURNS_MAX
+
+-- an order within the limits of `emulate`, whose cores take turns as they come
+pub record IsEmulateOrder (order : RunView) : Type 0 where
+  pub run : IsRunOrder order
+  pub number : order.order ≡ 0
+  pub turns : order.turns ≡ 0
+
+-- an order within the limits of `workload`
+pub record IsWorkloadOrder (order : WorkloadOrder) : Type 0 where
+  pub least : 1 ≤ order.packets
+  pub most : order.packets ≤ WORKLOAD_PACKETS_MAX
+  pub cores : IsCoreCount order.cores

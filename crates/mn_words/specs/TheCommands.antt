@@ -4,14 +4,15 @@ use Rattle.std.specs.Prelude.{ℕ, true, false, List, [], ◌∷◌, Option, Som
 use Rattle.mn_words.specs.declared.command.Command.{Command}
 use Rattle.mn_words.specs.declared.command.Command.TheVariants as command
 use Rattle.mn_words.specs.declared.order.Order.{Order}
-use Rattle.mn_words.specs.declared.order.Order.TheVariants.{Chain, Distill, Assign, Rehearse}
+use Rattle.mn_words.specs.declared.order.Order.TheVariants.{Chain, Distill, Assign, Rehearse, Emulate, Workload}
 use Rattle.mn_words.specs.declared.order.PipeSpec.{PipeSpec}
+use Rattle.mn_words.specs.declared.order.WorkloadOrder.{WorkloadOrder}
 use Rattle.mn_words.specs.declared.opt.Opt.TheVariants.{Pipe}
 use Rattle.mn_words.specs.declared.opt.WordsFault.{WordsFault}
 use Rattle.mn_words.specs.declared.opt.WordsFault.TheVariants.{Value}
 use Rattle.mn_words.specs.Form.{Form, value_of, bare_words}
 use Rattle.mn_words.specs.Items.{Item}
-use Rattle.mn_words.specs.Options.{mode_in, cores_in, seed_in, tick_in, cluster_report_in, order_in, turns_in, loss_in, text_in}
+use Rattle.mn_words.specs.Options.{mode_in, cores_in, seed_in, tick_in, cluster_report_in, order_in, turns_in, workload_number_in, packets_in, loss_in, text_in}
 use Rattle.mn_words.specs.Order.{ChainView, DistillView, AssignView, RunView}
 use Rattle.mn_words.specs.Values.{chain_pipes}
 
@@ -27,7 +28,18 @@ command_of word =
     if bytes_eq word (codes "distill") then Some command.Distill else
     if bytes_eq word (codes "assign") then Some command.Assign else
     if bytes_eq word (codes "rehearse") then Some command.Rehearse else
+    if bytes_eq word (codes "emulate") then Some command.Emulate else
+    if bytes_eq word (codes "workload") then Some command.Workload else
     None
+
+-- the options that a run of a trace over a topology needs, and those that it may have, too
+abbrev pub run_needs : List (List ℕ)
+run_needs = codes "--topology" ∷ codes "--trace" ∷ codes "--out" ∷ codes "--report" ∷ []
+
+abbrev pub run_may_have : List (List ℕ)
+run_may_have =
+    codes "--mode" ∷ codes "--cores" ∷ codes "--seed" ∷ codes "--tick-ns" ∷ codes "--directory" ∷ codes "--cluster-report"
+    ∷ codes "--loss" ∷ []
 
 -- a row for each command: the options that are required, those that may stand, too, and whether there are PIPEs
 unfoldable pub form_of : Command → Form
@@ -47,10 +59,18 @@ form_of command.Assign = record {
   takes_pipes = false;
 }
 form_of command.Rehearse = record {
-  needs = codes "--topology" ∷ codes "--trace" ∷ codes "--out" ∷ codes "--report" ∷ [];
-  may_have =
-      codes "--mode" ∷ codes "--cores" ∷ codes "--seed" ∷ codes "--tick-ns" ∷ codes "--directory" ∷ codes "--cluster-report"
-      ∷ codes "--order" ∷ codes "--turns" ∷ codes "--loss" ∷ [];
+  needs = run_needs;
+  may_have = codes "--order" ∷ codes "--turns" ∷ run_may_have;
+  takes_pipes = false;
+}
+form_of command.Emulate = record {
+  needs = run_needs;
+  may_have = run_may_have;
+  takes_pipes = false;
+}
+form_of command.Workload = record {
+  needs = codes "--number" ∷ [];
+  may_have = codes "--packets" ∷ codes "--cores" ∷ [];
   takes_pipes = false;
 }
 
@@ -86,14 +106,14 @@ distill_of items = do
 unfoldable pub assign_of : List Item → Result AssignView WordsFault
 assign_of items = do
   mode ← mode_in items
-  cores ← cores_in items
+  cores ← cores_in 1 items
   Ok (record { topology = text_in (codes "--topology") items; mode = mode; cores = cores })
 
--- the same of the items behind `rehearse`
+-- the same of the items behind `rehearse` or `emulate`
 unfoldable pub run_of : List Item → Result RunView WordsFault
 run_of items = do
   mode ← mode_in items
-  cores ← cores_in items
+  cores ← cores_in 1 items
   seed ← seed_in items
   tick_ns ← tick_in items
   cluster_report ← cluster_report_in items
@@ -116,6 +136,14 @@ run_of items = do
     loss = loss;
   })
 
+-- the same of the items behind `workload`
+unfoldable pub workload_of : List Item → Result WorkloadOrder WordsFault
+workload_of items = do
+  cores ← cores_in 4 items
+  number ← workload_number_in items
+  packets ← packets_in items
+  Ok (record { number = number; packets = packets; cores = cores })
+
 -- an arm for each command
 unfoldable pub order_of : Command → List Item → Result Order WordsFault
 order_of command.Chain items = do
@@ -130,3 +158,9 @@ order_of command.Assign items = do
 order_of command.Rehearse items = do
   order ← run_of items
   Ok (Rehearse order)
+order_of command.Emulate items = do
+  order ← run_of items
+  Ok (Emulate order)
+order_of command.Workload items = do
+  order ← workload_of items
+  Ok (Workload order)

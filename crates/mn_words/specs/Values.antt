@@ -1,7 +1,7 @@
 -- What the text of a value says, where it is one that its option allows. A text is the list of its bytes; the colon is 58.
 use Rattle.std.specs.Prelude.{ℕ, Bool, true, false, ◌==◌, ◌&&◌, nat_le, List, [], ◌∷◌, Option, Some, None, length, bytes_eq, codes, if◌then◌else◌}
 use Rattle.std.specs.List.{slice_split}
-use Rattle.mn_base.specs.declared.limits.TheConstants.{BPS_MIN, BPS_MAX, LINK_LATENCY_US_MAX, QUEUE_MIN, QUEUE_MAX, LOSS_PPM_MAX, CHAIN_PIPES_MAX, FRONTIERS_MAX, CORES_MAX, TURNS_MAX, TICK_NS_MIN, TICK_NS_MAX}
+use Rattle.mn_base.specs.declared.limits.TheConstants.{BPS_MIN, BPS_MAX, LINK_LATENCY_US_MAX, QUEUE_MIN, QUEUE_MAX, LOSS_PPM_MAX, CHAIN_PIPES_MAX, FRONTIERS_MAX, CORES_MAX, TURNS_MAX, WORKLOAD_PACKETS_MAX, TICK_NS_MIN, TICK_NS_MAX}
 use Rattle.mn_base.specs.Decimal.{decimal_of}
 use Rattle.distill.specs.declared.modes.Mode.{Mode}
 use Rattle.distill.specs.declared.modes.Mode.TheVariants.{Hop, Walk, End, WalkOut}
@@ -31,6 +31,10 @@ cores_of text = number_within 1 CORES_MAX text
 -- a number of turns
 abbrev pub turns_of : List ℕ → Option ℕ
 turns_of text = number_within 0 TURNS_MAX text
+
+-- a number of packets of a workload
+abbrev pub packets_of : List ℕ → Option ℕ
+packets_of text = number_within 1 WORKLOAD_PACKETS_MAX text
 
 -- whether something is to be done
 unfoldable pub yes_or_no : List ℕ → Option Bool

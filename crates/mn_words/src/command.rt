@@ -10,6 +10,8 @@ pub enum Command {
     Distill,
     Assign,
     Rehearse,
+    Emulate,
+    Workload,
 }
 
 /// The command of a word.
@@ -25,6 +27,10 @@ pub fn command_of(word: &str) -> Option<Command>
         Some(Command::Assign)
     } else if word == "rehearse" {
         Some(Command::Rehearse)
+    } else if word == "emulate" {
+        Some(Command::Emulate)
+    } else if word == "workload" {
+        Some(Command::Workload)
     } else {
         None
     }
@@ -54,16 +60,34 @@ pub fn form_of(command: Command) -> Form
         Command::Rehearse => Form {
             needs: &["--topology", "--trace", "--out", "--report"],
             may_have: &[
+                "--order",
+                "--turns",
                 "--mode",
                 "--cores",
                 "--seed",
                 "--tick-ns",
                 "--directory",
                 "--cluster-report",
-                "--order",
-                "--turns",
                 "--loss",
             ],
+            takes_pipes: false,
+        },
+        Command::Emulate => Form {
+            needs: &["--topology", "--trace", "--out", "--report"],
+            may_have: &[
+                "--mode",
+                "--cores",
+                "--seed",
+                "--tick-ns",
+                "--directory",
+                "--cluster-report",
+                "--loss",
+            ],
+            takes_pipes: false,
+        },
+        Command::Workload => Form {
+            needs: &["--number"],
+            may_have: &["--packets", "--cores"],
             takes_pipes: false,
         },
     }

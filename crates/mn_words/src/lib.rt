@@ -16,7 +16,9 @@ mod values;
 mod words;
 
 pub use opt::{Opt, WordsFault};
-pub use order::{AssignOrder, ChainOrder, DistillOrder, FileName, Order, PipeSpec, RunOrder};
+pub use order::{
+    AssignOrder, ChainOrder, DistillOrder, FileName, Order, PipeSpec, RunOrder, WorkloadOrder,
+};
 pub use words::read_words;
 
 #[cfg(test)]

@@ -4,19 +4,25 @@ ghost use Rattle.mn_base.specs.Ranges.{IsTickLength};
 ghost use Rattle.distill.specs.Modes.{IsMode};
 ghost use Rattle.mn_words.specs.Form.{value_of};
 ghost use Rattle.mn_words.specs.Items.{items_of};
-ghost use Rattle.mn_words.specs.Options.{mode_in, cores_in, seed_in, tick_in, cluster_report_in, order_in, turns_in, loss_in, text_in};
+ghost use Rattle.mn_words.specs.Options.{mode_in, cores_in, seed_in, tick_in, cluster_report_in, order_in, turns_in, workload_number_in, packets_in, loss_in, text_in};
 ghost use Rattle.mn_words.specs.Order.{IsCoreCount};
 
 use crate::form::value_of;
 use crate::opt::{Opt, WordsFault};
 use crate::order::FileName;
 use crate::rest::Rest;
-use crate::values::{cores_of, loss_of, mode_of, tick_of, turns_of, yes_or_no};
+use crate::values::{cores_of, loss_of, mode_of, packets_of, tick_of, turns_of, yes_or_no};
 use distill::Mode;
 use journal::LossBy;
-use mn_base::limits::{TICK_NS_DEFAULT, TURNS_MAX};
+use mn_base::limits::{TICK_NS_DEFAULT, TURNS_MAX, WORKLOAD_PACKETS_MAX};
 use mn_base::{NoMemory, read_u64};
 use std::alloc::Global;
+
+/// The cores of a workload where no number of cores is asked for.
+pub const WORKLOAD_CORES_DEFAULT: u32 = 4;
+
+/// The packets of a workload where no number of packets is asked for.
+const WORKLOAD_PACKETS_DEFAULT: u32 = 20_000;
 
 /// `--mode`: how much is kept of a topology, and every link without it.
 pub fn mode_in(words: Rest) -> Result<Mode, WordsFault>
@@ -29,13 +35,14 @@ pub fn mode_in(words: Rest) -> Result<Mode, WordsFault>
     }
 }
 
-/// `--cores`: how many cores there are, and one without it.
-pub fn cores_in(words: Rest) -> Result<u32, WordsFault>
-    ensures value { result ≡ cores_in (items_of words.entry) }
+/// `--cores`: how many cores there are, and as many as are usual without it.
+pub fn cores_in(words: Rest, usual: u32) -> Result<u32, WordsFault>
+    requires { IsCoreCount usual }
+    ensures value { result ≡ cores_in usual (items_of words.entry) }
     ensures range { IfOk result IsCoreCount }
 {
     match value_of(words, "--cores") {
-        None => Ok(1),
+        None => Ok(usual),
         Some(text) => cores_of(text).ok_or(WordsFault::Value(Opt::Cores)),
     }
 }
@@ -89,6 +96,26 @@ pub fn turns_in(words: Rest) -> Result<u32, WordsFault>
     match value_of(words, "--turns") {
         None => Ok(0),
         Some(text) => turns_of(text).ok_or(WordsFault::Value(Opt::Turns)),
+    }
+}
+
+/// `--number`: the number of a workload, which stands.
+pub fn workload_number_in(words: Rest) -> Result<u64, WordsFault>
+    ensures { result ≡ workload_number_in (items_of words.entry) }
+{
+    let text = value_of(words, "--number").unwrap_or("");
+    read_u64(text.as_bytes()).ok_or(WordsFault::Value(Opt::Number))
+}
+
+/// `--packets`: how many packets a workload has, and the usual number without it.
+pub fn packets_in(words: Rest) -> Result<u32, WordsFault>
+    ensures value { result ≡ packets_in (items_of words.entry) }
+    ensures least { IfOk result (λ packets. 1 ≤ packets) }
+    ensures most { IfOk result (λ packets. packets ≤ WORKLOAD_PACKETS_MAX) }
+{
+    match value_of(words, "--packets") {
+        None => Ok(WORKLOAD_PACKETS_DEFAULT),
+        Some(text) => packets_of(text).ok_or(WordsFault::Value(Opt::Packets)),
     }
 }
 

@@ -130,7 +130,7 @@ impl Model for AssignOrder {
     } };
 }
 
-/// What `rehearse` is asked for.
+/// What `rehearse` or `emulate` is asked for.
 #[derive(Drop)]
 pub struct RunOrder {
     /// The topology that is read.
@@ -153,9 +153,9 @@ pub struct RunOrder {
     pub directory: Option<FileName>,
     /// Whether the cluster report is written.
     pub cluster_report: bool,
-    /// The number of the order in which the cores take their first turns.
+    /// The number of the order in which the cores take their first turns; 0 for `emulate`.
     pub order: u64,
-    /// How many turns are taken in that order.
+    /// How many turns are taken in that order; none for `emulate`.
     pub turns: u32,
     /// How loss words are numbered.
     pub loss: LossBy,
@@ -183,6 +183,17 @@ impl Model for RunOrder {
     } };
 }
 
+/// What `workload` is asked for.
+#[derive(Clone, Copy, Debug, PartialEq, Eq)]
+pub struct WorkloadOrder {
+    /// The number that topology and trace are generated from, and the seed of the loss words.
+    pub number: u64,
+    /// How many packets the trace has, from 1 to 200,000.
+    pub packets: u32,
+    /// How many cores run.
+    pub cores: u32,
+}
+
 /// What a command line asks for.
 #[derive(Drop)]
 pub enum Order {
@@ -194,4 +205,8 @@ pub enum Order {
     Assign(AssignOrder),
     /// Replays a trace over a distilled topology, all cores on one thread.
     Rehearse(RunOrder),
+    /// The same, each core on a thread of its own.
+    Emulate(RunOrder),
+    /// Replays a generated trace over a generated topology, and prints a summary.
+    Workload(WorkloadOrder),
 }

@@ -1,6 +1,8 @@
 //! Lines of words, with what comes of each by the rules.
 use crate::opt::{Opt, WordsFault};
-use crate::order::{AssignOrder, ChainOrder, DistillOrder, Order, PipeSpec, RunOrder};
+use crate::order::{
+    AssignOrder, ChainOrder, DistillOrder, Order, PipeSpec, RunOrder, WorkloadOrder,
+};
 use crate::words::read_words;
 use distill::Mode;
 use journal::LossBy;
@@ -61,13 +63,27 @@ fn run_order(rt: &(impl Abort + AllocGlobal), line: &str) -> RunOrder {
     }
 }
 
+fn emulate_order(rt: &(impl Abort + AllocGlobal), line: &str) -> RunOrder {
+    match order_of(rt, line) {
+        Order::Emulate(order) => order,
+        _ => panic!(rt; "no order to emulate: {line}"),
+    }
+}
+
+fn workload_order(rt: &(impl Abort + AllocGlobal), line: &str) -> WorkloadOrder {
+    match order_of(rt, line) {
+        Order::Workload(order) => order,
+        _ => panic!(rt; "no order of a workload: {line}"),
+    }
+}
+
 #[test]
 fn no_words_and_words_that_are_no_command(rt: HostRuntime) -> Result<(), Fail> {
     let none = read_words(rt.alloc(), &[]).err();
     assert_eq!(rt; none, Some(Refusal::Fault(WordsFault::Command)));
     let lines = "\
-emulate
-workload --number 7
+emulat
+Workload --number 7
 --trace t
 --help
 distil --topology t
@@ -122,7 +138,28 @@ rehearse --trace t --out o --report r
 rehearse --topology g --trace t --out o --report r 1000:0:1:0
 rehearse --topology g --trace t --out o --report r --directory
 rehearse --topology g --trace t --out o --report r --cluster-report
-rehearse --topology g --trace t --out o --report r --number 7";
+rehearse --topology g --trace t --out o --report r --number 7
+emulate
+emulate --topology g --trace t --out o
+emulate --topology g --trace t --report r
+emulate --topology g --out o --report r
+emulate --trace t --out o --report r
+emulate --topology g --trace t --out o --report r --order 0
+emulate --topology g --trace t --out o --report r --turns=0
+emulate --topology g --trace t --out o --report r 1000:0:1:0
+emulate --topology g --trace t --out o --report r --directory
+emulate --topology g --trace t --out o --report r --loss
+workload
+workload --packets 14 --cores 2
+workload --number
+workload --number 7 --packets
+workload --number 7 --seed 7
+workload --number 7 --mode hop
+workload --number 7 --tick-ns 100000
+workload --number 7 --loss packet
+workload --number 7 --out o
+workload --number 7 14
+workload 7";
     assert_faults(&rt, lines, WordsFault::Form);
     Ok(())
 }
@@ -179,7 +216,11 @@ distill --tick-ns=1000 --tick-ns=1000 --topology t
 assign --cores 2 --topology t --cores=2
 rehearse --topology g --trace t --out o --report r --seed 1 --seed 1
 rehearse --topology g --directory d --trace t --directory= --out o --report r
-rehearse --topology g --trace t --out o --report r --order 1 --turns 1 --order 2";
+rehearse --topology g --trace t --out o --report r --order 1 --turns 1 --order 2
+emulate --topology g --trace t --out o --report r --cores 2 --cluster-report yes --cores=2
+emulate --topology g --trace t --out o --report r --directory= --directory d
+workload --number 7 --number=7
+workload --cores 4 --number 7 --cores 4";
     assert_faults(&rt, lines, WordsFault::Form);
     Ok(())
 }
@@ -191,7 +232,9 @@ chain --trace t --out o --report r --seed x --seed 1 1000:0:1:0
 chain --trace t --out o --report r --loss word 0:0:0:0 --tick-ns
 chain --trace t --out o --report r --seed x
 distill --mode walk:0 --tick-ns 1
-distill --topology t --mode walk:0 x";
+distill --topology t --mode walk:0 x
+rehearse --topology g --trace t --out o --turns x --cores 0
+emulate --topology g --trace t --out o --report r --mode x --turns 1";
     assert_faults(&rt, lines, WordsFault::Form);
     Ok(())
 }
@@ -268,7 +311,12 @@ assign --topology t --cores=17
 assign --topology t --cores 0
 assign --cores --mode --topology t
 rehearse --topology g --trace t --out o --report r --cores 17
-rehearse --topology g --trace t --out o --report r --cores=17";
+rehearse --topology g --trace t --out o --report r --cores=17
+emulate --topology g --trace t --out o --report r --cores 17
+emulate --topology g --trace t --out o --report r --cores=17
+emulate --topology g --trace t --out o --report r --cores --cluster-report
+workload --number x --packets 0 --cores 0
+workload --packets=x --number= --cores 17";
     assert_faults(&rt, cores, WordsFault::Value(Opt::Cores));
     let mode = "assign --cores 17 --topology t --mode walk:0";
     assert_faults(&rt, mode, WordsFault::Value(Opt::Mode));
@@ -303,6 +351,53 @@ rehearse --loss x";
         ).expect(&rt, "memory");
         assert_faults(&rt, whole.as_str(), WordsFault::Value(opt));
     }
+    Ok(())
+}
+
+/// The same without the options that `emulate` hasn't.
+#[test]
+fn the_first_wrong_value_of_an_emulation(rt: HostRuntime) -> Result<(), Fail> {
+    let lines = "\
+emulate --loss= --cluster-report YES --tick-ns 10000001 --seed -1 --cores 17 --mode hop:1
+emulate --loss= --cluster-report YES --tick-ns 10000001 --seed -1 --cores 17
+emulate --loss= --cluster-report YES --tick-ns 10000001 --seed -1
+emulate --loss= --cluster-report YES --tick-ns 10000001
+emulate --loss= --cluster-report YES
+emulate --loss=";
+    let opts = [
+        Opt::Mode,
+        Opt::Cores,
+        Opt::Seed,
+        Opt::TickNs,
+        Opt::ClusterReport,
+        Opt::Loss,
+    ];
+    for (line, opt) in lines.lines().zip(opts) {
+        let whole = format!(in rt.alloc();
+            "{line} --topology g --trace t --out o --report r"
+        ).expect(&rt, "memory");
+        assert_faults(&rt, whole.as_str(), WordsFault::Value(opt));
+    }
+    Ok(())
+}
+
+#[test]
+fn the_first_wrong_value_of_a_workload(rt: HostRuntime) -> Result<(), Fail> {
+    let numbers = "\
+workload --number x
+workload --number=
+workload --number -1
+workload --number 18446744073709551616
+workload --number --packets --packets 0
+workload --packets 200001 --cores 16 --number 7.";
+    assert_faults(&rt, numbers, WordsFault::Value(Opt::Number));
+    let packets = "\
+workload --number 7 --packets 0
+workload --number 7 --packets 200001
+workload --number 7 --packets=
+workload --packets 18446744073709551616 --number 7
+workload --packets --number --number 7";
+    assert_faults(&rt, packets, WordsFault::Value(Opt::Packets));
     Ok(())
 }
 
@@ -354,6 +449,72 @@ fn a_rehearsal_with_all_options(rt: HostRuntime) -> Result<(), Fail> {
     assert_eq!(rt; order.order, u64::MAX);
     assert_eq!(rt; order.turns, 1_000_000);
     assert_eq!(rt; order.loss, LossBy::Arrival);
+    Ok(())
+}
+
+#[test]
+fn what_is_to_be_emulated(rt: HostRuntime) -> Result<(), Fail> {
+    let order = emulate_order(&rt, "emulate --topology g --trace t --out o --report r");
+    assert_eq!(rt; order.topology.as_str(), "g");
+    assert_eq!(rt; order.trace.as_str(), "t");
+    assert_eq!(rt; order.out.as_str(), "o");
+    assert_eq!(rt; order.report.as_str(), "r");
+    assert_eq!(rt; order.mode, Mode::Hop);
+    assert_eq!(rt; order.cores, 1);
+    assert_eq!(rt; order.seed, 0);
+    assert_eq!(rt; order.tick_ns, 100_000);
+    assert!(rt; order.directory.is_none());
+    assert!(rt; !order.cluster_report);
+    assert_eq!(rt; order.order, 0);
+    assert_eq!(rt; order.turns, 0);
+    assert_eq!(rt; order.loss, LossBy::Packet);
+    Ok(())
+}
+
+#[test]
+fn an_emulation_with_all_options(rt: HostRuntime) -> Result<(), Fail> {
+    let line =
+        "emulate --cluster-report yes --directory= --report=--out --out --report --loss=arrival --trace t=t \
+        --tick-ns=10000000 --seed 18446744073709551615 --topology=g --cores=16 --mode walk:4096:1";
+    let order = emulate_order(&rt, line);
+    assert_eq!(rt; order.topology.as_str(), "g");
+    assert_eq!(rt; order.trace.as_str(), "t=t");
+    assert_eq!(rt; order.out.as_str(), "--report");
+    assert_eq!(rt; order.report.as_str(), "--out");
+    assert_eq!(rt; order.mode, Mode::WalkOut(4_096, 1));
+    assert_eq!(rt; order.cores, 16);
+    assert_eq!(rt; order.seed, u64::MAX);
+    assert_eq!(rt; order.tick_ns, 10_000_000);
+    let directory = order.directory.expect(&rt, "a directory");
+    assert_eq!(rt; directory.as_str(), "");
+    assert!(rt; order.cluster_report);
+    assert_eq!(rt; order.order, 0);
+    assert_eq!(rt; order.turns, 0);
+    assert_eq!(rt; order.loss, LossBy::Arrival);
+    Ok(())
+}
+
+#[test]
+fn what_workload_is_asked_for(rt: HostRuntime) -> Result<(), Fail> {
+    let orders = [
+        ("workload --number 0", 0, 20_000, 4),
+        ("workload --packets=1 --number 7 --cores 1", 7, 1, 1),
+        (
+            "workload --cores=16 --packets 200000 --number=18446744073709551615",
+            u64::MAX,
+            200_000,
+            16,
+        ),
+    ];
+    for (line, number, packets, cores) in orders {
+        let found = workload_order(&rt, line);
+        let wanted = WorkloadOrder {
+            number,
+            packets,
+            cores,
+        };
+        assert_eq!(rt; found, wanted, "at {line}");
+    }
     Ok(())
 }
 

@@ -1,7 +1,7 @@
 ghost use Rattle.std.specs.Prelude.{◌≡◌, ◌≤◌, [], ◌∷◌, IfSome, MatchOption, None};
 ghost use Rattle.mn_base.specs.Ranges.{IsTickLength};
 ghost use Rattle.distill.specs.Modes.{IsFrontierCount, IsMode};
-ghost use Rattle.mn_words.specs.Values.{number_within, colon_parts, pipe_spec_of, tick_of, cores_of, turns_of, yes_or_no, loss_of, mode_of, walk_of, walk_numbers, frontier_count};
+ghost use Rattle.mn_words.specs.Values.{number_within, colon_parts, pipe_spec_of, tick_of, cores_of, turns_of, packets_of, yes_or_no, loss_of, mode_of, walk_of, walk_numbers, frontier_count};
 ghost use Rattle.mn_words.specs.Order.{IsCoreCount, IsPipeSpec};
 
 use crate::order::PipeSpec;
@@ -9,7 +9,7 @@ use distill::Mode;
 use journal::LossBy;
 use mn_base::limits::{
     BPS_MAX, BPS_MIN, CORES_MAX, FRONTIERS_MAX, LINK_LATENCY_US_MAX, LOSS_PPM_MAX, QUEUE_MAX,
-    QUEUE_MIN, TICK_NS_MAX, TICK_NS_MIN, TURNS_MAX,
+    QUEUE_MIN, TICK_NS_MAX, TICK_NS_MIN, TURNS_MAX, WORKLOAD_PACKETS_MAX,
 };
 use mn_base::read_u64;
 
@@ -51,6 +51,16 @@ pub fn turns_of(text: &str) -> Option<u32>
     ensures range { IfSome result (λ turns. turns ≤ TURNS_MAX) }
 {
     let count = number_within(text, 0, u64::from(TURNS_MAX))?;
+    Some(count as u32)
+}
+
+/// How many packets of a workload a text names: from 1 to 200,000.
+pub fn packets_of(text: &str) -> Option<u32>
+    ensures value { result ≡ packets_of text.now }
+    ensures least { IfSome result (λ packets. 1 ≤ packets) }
+    ensures most { IfSome result (λ packets. packets ≤ WORKLOAD_PACKETS_MAX) }
+{
+    let count = number_within(text, 1, u64::from(WORKLOAD_PACKETS_MAX))?;
     Some(count as u32)
 }
 

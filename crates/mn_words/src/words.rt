@@ -2,17 +2,18 @@ ghost use Rattle.std.specs.Prelude.{◌≡◌, ◌≤◌, length, Some, Ok, Err,
 ghost use Rattle.mn_base.specs.Refused.{IfFault};
 ghost use Rattle.mn_words.specs.Form.{bare_words, has_form};
 ghost use Rattle.mn_words.specs.Items.{items_of};
-ghost use Rattle.mn_words.specs.Order.{IsAssignOrder, IsChainOrder, IsDistillOrder, IsRunOrder};
-ghost use Rattle.mn_words.specs.TheCommands.{form_of, order_of, chain_of, distill_of, assign_of, run_of};
+ghost use Rattle.mn_words.specs.Options.{order_in, turns_in};
+ghost use Rattle.mn_words.specs.Order.{IsAssignOrder, IsChainOrder, IsDistillOrder, IsRunOrder, IsWorkloadOrder};
+ghost use Rattle.mn_words.specs.TheCommands.{form_of, order_of, chain_of, distill_of, assign_of, run_of, workload_of};
 ghost use Rattle.mn_words.specs.Words.{ordered, texts, IsInRange};
 
 use crate::command::{Command, command_of, form_of};
 use crate::opt::WordsFault;
 use crate::options::{
-    cluster_report_in, cores_in, file_if_named, file_in, loss_in, mode_in, order_in, seed_in,
-    tick_in, turns_in,
+    WORKLOAD_CORES_DEFAULT, cluster_report_in, cores_in, file_if_named, file_in, loss_in, mode_in,
+    order_in, packets_in, seed_in, tick_in, turns_in, workload_number_in,
 };
-use crate::order::{AssignOrder, ChainOrder, DistillOrder, Order, RunOrder};
+use crate::order::{AssignOrder, ChainOrder, DistillOrder, Order, RunOrder, WorkloadOrder};
 use crate::pipes::chain_pipes;
 use crate::rest::Rest;
 use mn_base::Refusal;
@@ -25,13 +26,15 @@ use std::alloc::Global;
 /// - `distill --topology F --mode M (hop) --tick-ns N (100000)` prints the pipes of a distilled topology.
 /// - `assign --topology F --mode M (hop) --cores N (1)` prints which core owns each of these pipes.
 /// - `rehearse --topology F --trace F --out F --report F --mode M (hop) --cores N (1) --seed N (0) --tick-ns N (100000)
-///   --directory F --cluster-report B (no) --order N (0) --turns N (0) --loss L (packet)` replays a trace over a distilled
+///   --directory F --cluster-report B (no) --loss L (packet) --order N (0) --turns N (0)` replays a trace over a distilled
 ///   topology.
+/// - `emulate` does the same on a thread for each core; it has the options of `rehearse` but for `--order` and `--turns`.
+/// - `workload --number N --packets N (20000) --cores N (4)` replays a trace over a topology, both generated from a number.
 ///
 /// What stands in brackets holds where the option is left out; the others are required, but for `--directory`. Options and PIPEs
-/// may be mixed. An option is `--name value`, whatever the value's word is, or `--name=value`, parted at the
-/// first `=`. A PIPE is `BPS:LATENCY_US:QUEUE:PPM`, M is `hop`, `end`, `walk:W` or `walk:W:O` with numbers from 1 to 4,096, L is
-/// `packet` or `arrival`, B is `yes` or `no`, there are 1 to 16 cores and at most 1,000,000 turns.
+/// may be mixed. An option is `--name value`, whatever the value's word is, or `--name=value`, parted at the first `=`. A PIPE is
+/// `BPS:LATENCY_US:QUEUE:PPM`, M is `hop`, `end`, `walk:W` or `walk:W:O` with numbers from 1 to 4,096, L is `packet` or `arrival`,
+/// B is `yes` or `no`. There are 1 to 16 cores, at most 1,000,000 turns, and 1 to 200,000 packets.
 ///
 /// # Errors
 ///
@@ -71,6 +74,8 @@ fn order_of(alloc: Global, command: Command, words: Rest) -> Result<Order, Refus
         Command::Distill => Ok(Order::Distill(distill_of(alloc, words)?)),
         Command::Assign => Ok(Order::Assign(assign_of(alloc, words)?)),
         Command::Rehearse => Ok(Order::Rehearse(run_of(alloc, words)?)),
+        Command::Emulate => Ok(Order::Emulate(run_of(alloc, words)?)),
+        Command::Workload => Ok(Order::Workload(workload_of(words)?)),
     }
 }
 
@@ -122,7 +127,7 @@ fn assign_of(alloc: Global, words: Rest) -> Result<AssignOrder, Refusal<WordsFau
     ensures fault { IfErr result (λ e. IfFault e (λ fault. assign_of (items_of words.entry) ≡ Err fault)) }
 {
     let mode = mode_in(words.again())?;
-    let cores = cores_in(words.again())?;
+    let cores = cores_in(words.again(), 1)?;
     let topology = file_in(alloc, words, "--topology")?;
     Ok(AssignOrder {
         topology,
@@ -135,10 +140,12 @@ fn assign_of(alloc: Global, words: Rest) -> Result<AssignOrder, Refusal<WordsFau
 fn run_of(alloc: Global, words: Rest) -> Result<RunOrder, Refusal<WordsFault>>
     ensures order { IfOk result (λ order. run_of (items_of words.entry) ≡ Ok order) }
     ensures ranges { IfOk result IsRunOrder }
+    ensures number { IfOk result (λ order. order_in (items_of words.entry) ≡ Ok order.order) }
+    ensures turns { IfOk result (λ order. turns_in (items_of words.entry) ≡ Ok order.turns) }
     ensures fault { IfErr result (λ e. IfFault e (λ fault. run_of (items_of words.entry) ≡ Err fault)) }
 {
     let mode = mode_in(words.again())?;
-    let cores = cores_in(words.again())?;
+    let cores = cores_in(words.again(), 1)?;
     let seed = seed_in(words.again())?;
     let tick_ns = tick_in(words.again())?;
     let cluster_report = cluster_report_in(words.again())?;
@@ -164,5 +171,20 @@ fn run_of(alloc: Global, words: Rest) -> Result<RunOrder, Refusal<WordsFault>>
         order,
         turns,
         loss,
+    })
+}
+
+#[tactic(auto, unfolding(crate::specs::TheCommands::workload_of))]
+fn workload_of(words: Rest) -> Result<WorkloadOrder, WordsFault>
+    ensures order { result ≡ workload_of (items_of words.entry) }
+    ensures ranges { IfOk result IsWorkloadOrder }
+{
+    let cores = cores_in(words.again(), WORKLOAD_CORES_DEFAULT)?;
+    let number = workload_number_in(words.again())?;
+    let packets = packets_in(words)?;
+    Ok(WorkloadOrder {
+        number,
+        packets,
+        cores,
     })
 }

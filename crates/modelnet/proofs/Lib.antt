@@ -14,6 +14,7 @@ pub mod OneRun
 pub mod OneToOne
 pub mod OtherCores
 pub mod Outputs
+pub mod Plainly
 pub mod RunReads
 pub mod RunSound
 pub mod RunWrites
@@ -23,3 +24,5 @@ pub mod Tallied
 pub mod TopologyRefused
 pub mod TopologySound
 pub mod WorldResults
+pub mod WorkloadSound
+pub mod WorkloadSteps

@@ -1,7 +1,7 @@
 -- The commands are sound, and so a command line is answered exactly.
 use Rattle.std.proofs.Common.{◌≡◌, ℕ, List, Ok, Err, refl, sym, ◌∙◌, ap, subst, inl, inr}
 use Rattle.mn_words.specs.declared.order.Order.{Order}
-use Rattle.mn_words.specs.declared.order.Order.TheVariants.{Chain, Distill, Assign, Rehearse}
+use Rattle.mn_words.specs.declared.order.Order.TheVariants.{Chain, Distill, Assign, Rehearse, Emulate, Workload}
 use Rattle.mn_words.specs.declared.opt.WordsFault.{WordsFault}
 use Rattle.mn_words.specs.Words.{ordered}
 use Rattle.core_loop.specs.TallyView.{TallyView}
@@ -17,12 +17,15 @@ use Rattle.modelnet.proofs.AssignSound.{assign_is_sound}
 use Rattle.modelnet.proofs.ChainSound.{chain_is_sound}
 use Rattle.modelnet.proofs.DistillSound.{distill_is_sound}
 use Rattle.modelnet.proofs.RunSound.{run_is_sound}
+use Rattle.modelnet.proofs.WorkloadSound.{workload_is_sound}
 
 pub is_sound : (limits : ReadLimits) (order : Order) → IsSoundCommand (row_of limits order)
 is_sound limits (Chain order) = chain_is_sound limits order
 is_sound limits (Distill order) = distill_is_sound limits order
 is_sound limits (Assign order) = assign_is_sound limits order
 is_sound limits (Rehearse order) = run_is_sound limits order
+is_sound limits (Emulate order) = run_is_sound limits order
+is_sound limits (Workload order) = workload_is_sound order
 
 -- words ask for one order
 one_order : (asked : Asked) (one other : Order) → asked ≡ Ok one → asked ≡ Ok other → one ≡ other

@@ -1,10 +1,12 @@
 -- What stands after each answer of a command line, and which answer it has to be. What the words ask for is an order, or the fault of
 -- the words.
-use Rattle.std.specs.Prelude.{◌≡◌, ℕ, List, [], Result, Ok, Err}
+use Rattle.std.specs.Prelude.{◌≡◌, ℕ, Bool, false, List, [], ◌∷◌, Result, Ok, Err, bytes_eq, codes, if◌then◌else◌}
 use Rattle.mn_edge.specs.declared.role.Role.{Role}
 use Rattle.core_loop.specs.TallyView.{TallyView}
 use Rattle.mn_words.specs.declared.opt.WordsFault.{WordsFault}
+use Rattle.mn_words.specs.declared.opt.WordsFault.TheVariants.{Command}
 use Rattle.mn_words.specs.declared.order.Order.{Order}
+use Rattle.mn_words.specs.declared.order.Order.TheVariants.{Emulate}
 use Rattle.mn_words.specs.Words.{ordered}
 use Rattle.modelnet.specs.declared.read_limits.ReadLimits.{ReadLimits}
 use Rattle.modelnet.specs.declared.status.Status.{Status}
@@ -16,6 +18,20 @@ use Rattle.modelnet.specs.TheCommands.{row_of}
 -- what words ask for
 abbrev pub Asked : Type 0
 Asked = Result Order WordsFault
+
+-- the first word asks for `emulate`
+abbrev pub asks_to_emulate : List (List ℕ) → Bool
+asks_to_emulate [] = false
+asks_to_emulate (first ∷ words) = bytes_eq first (codes "emulate")
+
+-- what words ask for where there are no threads: `emulate` is no command there, whatever words follow
+abbrev pub plainly_ordered : List (List ℕ) → Asked
+plainly_ordered words = if asks_to_emulate words then Err Command else ordered words
+
+-- an order that wants no threads
+abbrev pub WantsNoThreads : Order → Type 0
+WantsNoThreads (Emulate order) = ⊥
+WantsNoThreads order = Unit {0}
 
 -- the words are an order, and this is the answer of its command
 pub record IsOrdered (limits : ReadLimits) (asked : Asked) (old new : Host) (answer : Status) : Type 0 where

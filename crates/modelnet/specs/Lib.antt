@@ -5,6 +5,7 @@ pub mod Copies
 pub mod Distilling
 pub mod Ends
 pub mod Exact
+pub mod Generating
 pub mod OtherCores
 pub mod Progress
 pub mod Roles

@@ -3,7 +3,8 @@ use Rattle.std.specs.Prelude.{◌≡◌, ◌≤◌, ℕ, Bool, true, false, List
 use Rattle.mn_base.specs.declared.limits.TheConstants.{TOPOLOGY_BYTES_MAX, TRACE_BYTES_MAX, DIRECTORY_BYTES_MAX}
 use Rattle.mn_edge.specs.declared.role.Role.TheVariants.{Topology, Trace, Directory, Out, Report, Screen}
 use Rattle.mn_words.specs.declared.order.Order.{Order}
-use Rattle.mn_words.specs.declared.order.Order.TheVariants.{Chain, Distill, Assign, Rehearse}
+use Rattle.mn_words.specs.declared.order.WorkloadOrder.{WorkloadOrder}
+use Rattle.mn_words.specs.declared.order.Order.TheVariants.{Chain, Distill, Assign, Rehearse, Emulate, Workload}
 use Rattle.mn_words.specs.Order.{ChainView, DistillView, AssignView, RunView}
 use Rattle.distill.specs.declared.modes.Mode.{Mode}
 use Rattle.pcapng_in.specs.declared.fault.CaptureFault.TheVariants.{Pcap, Ng}
@@ -19,6 +20,7 @@ use Rattle.modelnet.specs.declared.status.Status.TheVariants.{BadTopology, BadTr
 use Rattle.modelnet.specs.Roles.{Input, Output, input, output}
 use Rattle.modelnet.specs.Run.{SaysRun}
 use Rattle.modelnet.specs.Running.{options_of, Plans, HasPlanFault, IsRunOf, cluster_reports, CountsRun}
+use Rattle.modelnet.specs.Generating.{WorkloadRefused, SaysWorkload, AddsWorkload}
 use Rattle.modelnet.specs.Distilling.{SaysPipes, SaysOwners, HasTooManyPipes}
 use Rattle.modelnet.specs.Commands.{Command, adds_nothing}
 
@@ -140,12 +142,37 @@ run_command limits order = record {
   adds = run_adds order;
 }
 
+-- the texts of a workload are refused before anything is read
+abbrev pub workload_refuses : WorkloadOrder → List (List ℕ) → Status → Type 0
+workload_refuses order [] status = WorkloadRefused order status
+workload_refuses order read refusal = ⊥
+
+abbrev pub workload_writes : WorkloadOrder → List (List ℕ) → List (List ℕ) → Type 0
+workload_writes order [] (screen ∷ []) = SaysWorkload order screen
+workload_writes order read written = ⊥
+
+abbrev pub workload_adds : WorkloadOrder → List (List ℕ) → TallyView → TallyView → Type 0
+workload_adds order [] old new = AddsWorkload order old new
+workload_adds order read old new = ⊥
+
+-- `workload` emulates a generated trace over a generated topology, and writes what came of it
+abbrev pub workload_command : WorkloadOrder → Command
+workload_command order = record {
+  inputs = [];
+  outputs = output Screen (codes "-") ∷ [];
+  refuses = workload_refuses order;
+  writes = workload_writes order;
+  adds = workload_adds order;
+}
+
 -- the row of an order, where no more bytes of a role are read than these limits
 abbrev pub row_of : ReadLimits → Order → Command
 row_of limits (Chain order) = chain_command limits order
 row_of limits (Distill order) = distill_command limits order
 row_of limits (Assign order) = assign_command limits order
 row_of limits (Rehearse order) = run_command limits order
+row_of limits (Emulate order) = run_command limits order
+row_of limits (Workload order) = workload_command order
 
 -- the most bytes that are read of each role
 abbrev pub usual_limits : ReadLimits

@@ -31,6 +31,8 @@ mod status;
 mod status_line;
 #[cfg(test)]
 mod tests;
+mod workload_command;
+mod workload_run;
 
 use crate::command_line::{command_line, words_behind};
 use crate::plain::plain;

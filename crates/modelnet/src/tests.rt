@@ -20,6 +20,9 @@
 // | TooLarge(Trace) | a_trace_above_its_limit_is_too_large | | | inputs_above_their_limits_are_too_large |
 // | TooLarge(Directory) | | | | inputs_above_their_limits_are_too_large |
 // | BadCapture | pcapng::a_cut_block_is_refused_and_nothing_is_written | | | each_input_is_refused_by_its_first_fault |
+//
+// `workload` reads no role; in `generating`: Done comes in summaries_are_the_same_on_any_number_of_cores, WriteFault(Screen) in
+// a_failed_write_leaves_a_front_of_the_summary.
 ghost use Rattle.std.specs.Prelude.{◌≡◌, ◌≤◌, false};
 ghost use Rattle.mn_edge.specs.declared.role.Role.{Role};
 ghost use Rattle.mn_edge.specs.MemoryHostView.{stream_of};
@@ -27,6 +30,7 @@ ghost use Rattle.mn_edge.specs.MemoryHostView.{stream_of};
 mod assigning;
 mod bursts;
 mod distilling;
+mod generating;
 mod pcapng;
 mod refusing;
 mod rehearsing;
@@ -383,8 +387,14 @@ fn words_that_are_no_order_are_refused(rt: HostRuntime) {
     let mut host = host(&rt, &ONE_PACKET, &[], 8, 4_096);
     let status = plain(rt.alloc(), &[], &mut host, &mut Tally::new());
     assert_eq!(rt; status, Status::BadWords(WordsFault::Command));
-    let command = Status::BadWords(WordsFault::Command);
-    assert_stops(&rt, "emulate", &ONE_PACKET, &[], 4_096, command, 0);
+    for line in [
+        "emulate",
+        "emulate --topology g --trace t --out o --report r --cores 17",
+        "emulate --topology g --trace t --out o --report r",
+    ] {
+        let command = Status::BadWords(WordsFault::Command);
+        assert_stops(&rt, line, &ONE_PACKET, &[], 4_096, command, 0);
+    }
     let form = Status::BadWords(WordsFault::Form);
     assert_stops(&rt, "chain --trace t", &ONE_PACKET, &[], 4_096, form, 0);
     let line = "chain --trace t --out o --report r 8000000:5000:1001:0";

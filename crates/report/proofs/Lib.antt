@@ -1,4 +1,5 @@
 pub mod Clusters
+pub mod LastTicks
 pub mod Limits
 pub mod NoCores
 pub mod NumberedLines

@@ -2,4 +2,5 @@ pub mod Cluster
 pub mod Laws
 pub mod Pipes
 pub mod Report
+pub mod Summary
 pub mod Traces

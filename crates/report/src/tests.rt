@@ -1,4 +1,4 @@
-use crate::{out_trace, print_report};
+use crate::{Generated, out_trace, print_report, print_summary};
 use journal::{LossBy, PacketPlan, Setup, SetupParts};
 use mn_base::limits::{KEEP_MAX, LINK_TYPE_RAW, TICK_NS_DEFAULT};
 use mn_base::{Bytes, Cause, NoMemory, PipeParams, Unbound};
@@ -166,5 +166,42 @@ fn trace_of_packets_that_leave_out_of_number_order(rt: HostRuntime) -> Result<()
         assert_eq!(rt; packet.original, 1_000);
         assert_eq!(rt; packet.bytes.as_slice(), bytes);
     }
+    Ok(())
+}
+
+#[test]
+fn summaries_tell_the_greatest_tick_of_all_that_left(rt: HostRuntime) -> Result<(), Fail> {
+    let mut leaving = Vec::new(rt.alloc());
+    for (packet, tick) in [(4, 7), (0, 60), (3, 9)] {
+        leaving.push(Leaving {
+            tick,
+            packet,
+            bytes: Bytes::copy(rt.alloc(), b"\xaa")?,
+        })?;
+    }
+    let dropped = DropLine {
+        packet: 1,
+        pipe: 0,
+        tick: 90,
+        cause: Cause::Loss,
+    };
+    let outcome = Outcome {
+        leaving,
+        dropped: vec![in rt.alloc(); dropped]?,
+        pipe_counts: Vec::new(rt.alloc()),
+        cores: Vec::new(rt.alloc()),
+    };
+    let input = Generated {
+        number: 7,
+        packets: 5,
+        gml_len: 8_300,
+        trace_len: 204,
+    };
+    let text = print_summary(rt.alloc(), &input, &outcome, &[(2, Unbound::NoRoute)])?;
+    let expected = b"workload 7 packets 5\n\
+        gml 8300 trace 204\n\
+        packets 5 bound 4 unbound 1 left 3 dropped 1\n\
+        last-tick 60\n";
+    assert_eq!(rt; text.as_slice(), expected.as_slice());
     Ok(())
 }

@@ -8,7 +8,7 @@ use Rattle.mn_words.proofs.words.run_of.Goals as goal
 pub returns-clause-order : goal.returns-clause-order
 returns-clause-order c = run_of-is (items_of c.args.words) _ (record {
   mode = sym (c.in_ok-mode.ensures.value ∙ ap (λ words. mode_in (items_of words)) c.again.ensures);
-  cores = sym (c.in_ok-cores.ensures.value ∙ ap (λ words. cores_in (items_of words)) c.again-2.ensures);
+  cores = sym (c.in_ok-cores.ensures.value ∙ ap (λ words. cores_in 1 (items_of words)) c.again-2.ensures);
   seed = sym (c.in_ok-seed.ensures ∙ ap (λ words. seed_in (items_of words)) c.again-3.ensures);
   tick_ns = sym (c.in_ok-tick_ns.ensures.value ∙ ap (λ words. tick_in (items_of words)) c.again-4.ensures);
   cluster_report = sym (c.in_ok-cluster_report.ensures ∙ ap (λ words. cluster_report_in (items_of words)) c.again-5.ensures);
