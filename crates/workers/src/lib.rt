@@ -18,3 +18,6 @@ mod working;
 pub use hook::Hook;
 pub use ran::Ran;
 pub use running::run_threads;
+
+#[cfg(test)]
+mod tests;
