@@ -8,6 +8,7 @@ pub mod FatesSoFar
 pub mod FewVisits
 pub mod HeldFirst
 pub mod HeldOrder
+pub mod MadeVisits
 pub mod Making
 pub mod Meets
 pub mod Numbers

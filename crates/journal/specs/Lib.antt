@@ -8,6 +8,8 @@ pub mod IsSetup
 pub mod Journal
 pub mod Laws
 pub mod LazyWords
+pub mod MadeVisits
 pub mod PipeChanges
 pub mod SetupView
 pub mod Steps
+pub mod VisitsView

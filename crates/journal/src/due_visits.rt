@@ -61,6 +61,7 @@ impl DueVisits {
     /// Takes out the first in canonical order.
     pub(crate) fn pop(&mut self) -> Option<DueVisit>
         ensures none { IfNone result (self.old ≡ []) }
+        ensures kept { IfNone result (self.new ≡ self.old) }
         ensures first { IfSome result (λ first. TakesVisit self.old first self.new) }
     {
         let first = self.firsts.get(self.next).copied();

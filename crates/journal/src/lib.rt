@@ -14,12 +14,14 @@ mod setup;
 mod setup_pipe;
 pub mod steps;
 mod visit;
+mod visits;
 
 pub use fate::Fate;
 pub use maker::journal;
 pub use packet_fates::fates;
 pub use setup::{LossBy, PacketPlan, PipeChange, Setup, SetupParts};
 pub use visit::Visit;
+pub use visits::Visits;
 
 #[cfg(test)]
 mod tests;

@@ -18,8 +18,8 @@ use std::marker::Model;
 /// A host in memory. It tells all its bytes, and a call fails exactly where the list names it, where a name has more
 /// than 4,096 bytes, or where a role has no room for a byte that is to be written.
 ///
-/// Topology, Trace and Directory have bytes to read and no room; the other roles have room and nothing to read. It takes
-/// all its memory when it is made.
+/// Topology, Trace, Directory and Journal have bytes to read and no room; the other roles have room and nothing to read.
+/// It takes all its memory when it is made and when it is given a journal.
 #[derive(Drop)]
 pub struct MemoryHost {
     fails: Vec<Fail>,
@@ -62,14 +62,25 @@ impl MemoryHost {
         let topology = Stream::new(alloc, topology, 0)?;
         let trace = Stream::new(alloc, trace, 0)?;
         let directory = Stream::new(alloc, directory, 0)?;
+        let journal = Stream::new(alloc, &[], 0)?;
         let out = Stream::new(alloc, &[], room)?;
         let report = Stream::new(alloc, &[], room)?;
         let screen = Stream::new(alloc, &[], room)?;
         Ok(MemoryHost {
             fails,
             piece,
-            streams: [topology, trace, directory, out, report, screen],
+            streams: [topology, trace, directory, journal, out, report, screen],
         })
+    }
+
+    /// The host with these bytes to read of Journal, which has none otherwise. All else of it is as it was.
+    pub fn with_journal(mut self, alloc: Global, journal: &[u8]) -> Result<MemoryHost, NoMemory>
+        ensures own { IfOk result (λ host. stream_of host Role.Journal ≡ record (stream_of self Role.Journal) { left = journal.now }) }
+        ensures touched { IfOk result (λ host. Touches Role.Journal self host) }
+    {
+        let stream = &mut self.streams[Role::Journal.index()];
+        stream.refill(alloc, journal)?;
+        Ok(self)
     }
 
     /// The bytes that were written to a role.

@@ -19,8 +19,8 @@ use std::{array, io};
 
 /// Files of the system, and a stream for Screen, whatever its name: standard output, unless `over` is given another one.
 ///
-/// The files of Topology, Trace and Directory are opened to be read; those of Out and Report are made, and emptied, when
-/// they are begun. Each error of the system is a counted fault, and so are a write that takes nothing and a name for
+/// The files of Topology, Trace, Directory and Journal are opened to be read; those of Out and Report are made, and
+/// emptied, when they are begun. Each error of the system is a counted fault, and so are a write that takes nothing and a name for
 /// which there is no memory, which is found before a file is opened. As a host it tells no bytes; the clauses `bytes` of
 /// its own calls say that a call moves just those bytes that the file or stream gave or took.
 #[derive(Drop)]

@@ -10,6 +10,8 @@ pub enum Role {
     Trace,
     /// The directory that is read: the owner of each pipe.
     Directory,
+    /// The journal that is read: the visits that a run is said to make.
+    Journal,
     /// The output trace, a pcap file.
     Out,
     /// The report that is written.
@@ -20,7 +22,7 @@ pub enum Role {
 
 impl Role {
     /// How many roles there are.
-    pub const COUNT: usize = 6;
+    pub const COUNT: usize = 7;
 
     /// The index of the role in the order in which a command uses them, from 0.
     pub fn index(self) -> usize

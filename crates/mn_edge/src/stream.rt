@@ -75,6 +75,15 @@ impl Stream {
         })
     }
 
+    /// The role has these bytes to read, in place of those that were left.
+    pub fn refill(&mut self, alloc: Global, input: &[u8]) -> Result<(), NoMemory>
+        ensures filled { IfOk result (λ _. self.new ≡ record self.old { left = input.now }) }
+    {
+        self.input = Vec::from_slice(alloc, input)?;
+        self.taken = 0;
+        Ok(())
+    }
+
     pub fn written(&self) -> &[u8]
         ensures lent { result.now ≡ self.now.written }
     {

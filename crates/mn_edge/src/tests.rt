@@ -56,30 +56,32 @@ fn read_trace(
 }
 
 #[test]
-fn four_bytes_meet_a_limit_of_four_and_five_do_not(rt: HostRuntime) {
+fn a_whole_read_ends_at_its_limit_and_at_the_call_that_is_named(rt: HostRuntime) {
     let four = read_trace(&rt, b"abcd", &[], 4).expect(&rt, "four bytes");
     assert_eq!(rt; four.as_slice(), b"abcd".as_slice());
     let five = read_trace(&rt, b"abcde", &[], 4);
     assert_eq!(rt; five.err(), Some(ReadEnd::TooLarge));
-}
-
-#[test]
-fn a_whole_read_ends_at_the_call_that_is_named(rt: HostRuntime) {
     let second = Fail {
         role: Role::Trace,
         op: Op::Read,
         k: 1,
     };
-    let other = Fail {
-        role: Role::Topology,
-        op: Op::Read,
-        k: 1,
+    let cut = read_trace(&rt, b"abcd", &[second], 4);
+    assert_eq!(rt; cut.err(), Some(ReadEnd::Fault));
+}
+
+#[test]
+fn a_journal_that_is_given_later_is_read(rt: HostRuntime) {
+    let host = MemoryHost::new(rt.alloc(), &[], b"trace", &[], &[], 3, 0);
+    let Ok(host) = host else {
+        panic!(rt; "memory");
     };
-    assert_eq!(rt;
-        read_trace(&rt, b"abcd", &[second], 4).err(),
-        Some(ReadEnd::Fault)
-    );
-    assert!(rt; read_trace(&rt, b"abcd", &[other], 4).is_ok());
+    let Ok(mut host) = host.with_journal(rt.alloc(), b"visits") else {
+        panic!(rt; "memory");
+    };
+    begun(&rt, &mut host, Role::Journal, "journal");
+    let bytes = read_all(rt.alloc(), &mut host, Role::Journal, 6).expect(&rt, "six bytes");
+    assert_eq!(rt; bytes.as_slice(), b"visits".as_slice());
 }
 
 /// What a whole write to Out answers, 8 bytes at a time, and what Out then holds.
@@ -141,7 +143,7 @@ fn a_name_has_at_most_4096_bytes(rt: HostRuntime) -> Result<(), Failure> {
 fn roles_are_in_order(rt: HostRuntime) {
     assert_eq!(rt; Role::Topology.index(), 0);
     assert_eq!(rt; Role::Screen.index() + 1, Role::COUNT);
-    assert!(rt; Role::Directory.is_input());
+    assert!(rt; Role::Journal.is_input());
     assert!(rt; !Role::Out.is_input());
 }
 

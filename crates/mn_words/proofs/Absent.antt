@@ -9,7 +9,7 @@ use Rattle.mn_words.specs.declared.opt.Opt.{Opt}
 use Rattle.mn_words.specs.declared.opt.Opt.TheVariants as opt
 use Rattle.mn_words.specs.declared.opt.WordsFault.{WordsFault}
 use Rattle.mn_words.specs.Items.{Item, items_of, is_cut}
-use Rattle.mn_words.specs.Form.{Form, has_this_name, value_of, takes, is_new, fit, has_needed, has_pipes, has_form}
+use Rattle.mn_words.specs.Form.{Form, has_this_name, value_of, takes, is_new, fit, has_needed, has_bare, has_form}
 use Rattle.mn_words.specs.Options.{option_or, order_in, turns_in}
 use Rattle.mn_words.specs.Order.{RunView, IsRunOrder, IsEmulateOrder}
 use Rattle.mn_words.specs.TheCommands.{form_of}
@@ -47,7 +47,7 @@ none_stands form name (item ∷ items) lacking fits =
 they_fit : (form : Form) (words : List (List ℕ)) → has_form form words ≡ true → fit form (items_of words) ≡ true
 unfolding has_form
 they_fit form words of_form = from (not (is_cut words)) (fit form (items_of words)) (has_needed form (items_of words))
-    (has_pipes form (items_of words)) of_form
+    (has_bare form (items_of words)) of_form
   where
     from : (a b c d : Bool) → (a && b && c && d) ≡ true → b ≡ true
     from true true c d all = refl

@@ -3,7 +3,10 @@ use Rattle.std.proofs.Common.{◌≡◌, ◌<◌, ◌==◌, ◌+◌, ℕ, Bool, 
 use Rattle.std.specs.Prelude.{bytes_eq, codes}
 use Rattle.std.specs.List.{slice_split, onto_first, position_or_len, before_first, after_first}
 use Rattle.std.proofs.lemmas.List.Splits.{slice_split_first}
-use Rattle.mn_words.specs.Values.{colon_parts, pipe_of_parts, pipe_spec_of, walk_of, walk_numbers}
+use Rattle.mn_words.specs.declared.order.PipeSpec.{PipeSpec}
+use Rattle.mn_words.specs.Moves.{move_of_parts, move_spec_of}
+use Rattle.mn_words.specs.Pipes.{pipe_of_parts, pipe_spec_of, red_of_parts}
+use Rattle.mn_words.specs.Values.{colon_parts, walk_of, walk_numbers}
 
 uncut : {X : Type 0} (p : X → Bool) (xs : List X) → position_or_len p xs ≡ length xs → slice_split p xs ≡ xs ∷ []
 uncut p [] none = refl
@@ -42,28 +45,41 @@ colon_parts-some (b ∷ word) none = from (b == 58) none
     from true none = cc
     from false none = onto_first-some b (slice_split (λ b. b == 58) word) none
 
-pub pipe_spec_of-one : (word a : List ℕ) → colon_parts word ≡ a ∷ [] → pipe_spec_of word ≡ None
-unfolding pipe_spec_of pipe_of_parts
-pipe_spec_of-one word a parts = rw parts refl
+-- fewer than four parts are no pipe, and so are five or more
+pub pipe_of_few : (parts : List (List ℕ)) → length parts < 4 → pipe_of_parts parts ≡ None
+unfolding pipe_of_parts
+pipe_of_few [] few = refl
+pipe_of_few (a ∷ []) few = refl
+pipe_of_few (a ∷ b ∷ []) few = refl
+pipe_of_few (a ∷ b ∷ c ∷ []) few = refl
+pipe_of_few (a ∷ b ∷ c ∷ d ∷ parts) few = absurd (omega (arith, few))
 
-pub pipe_spec_of-two : (word a b : List ℕ) → colon_parts word ≡ a ∷ b ∷ [] → pipe_spec_of word ≡ None
+pub pipe_of_more : (word a b c d back : List ℕ) → colon_parts word ≡ a ∷ b ∷ c ∷ d ∷ colon_parts back → pipe_spec_of word ≡ None
 unfolding pipe_spec_of pipe_of_parts
-pipe_spec_of-two word a b parts = rw parts refl
-
-pub pipe_spec_of-three : (word a b c : List ℕ) → colon_parts word ≡ a ∷ b ∷ c ∷ [] → pipe_spec_of word ≡ None
-unfolding pipe_spec_of pipe_of_parts
-pipe_spec_of-three word a b c parts = rw parts refl
-
--- more than four parts
-pub pipe_spec_of-more : (word a b c d back : List ℕ) → colon_parts word ≡ a ∷ b ∷ c ∷ d ∷ colon_parts back → pipe_spec_of word ≡ None
-unfolding pipe_spec_of pipe_of_parts
-pipe_spec_of-more word a b c d back parts = rw parts (from (colon_parts back) (colon_parts-some back))
+pipe_of_more word a b c d back parts = rw parts (from (colon_parts back) (colon_parts-some back))
   where
     from : (parts : List (List ℕ)) → (parts ≡ [] → ⊥) → pipe_of_parts (a ∷ b ∷ c ∷ d ∷ parts) ≡ None
     from [] some = absurd (some refl)
     from (part ∷ parts) some = refl
 
-pub ruleset counts = (pipe_spec_of-one, pipe_spec_of-two, pipe_spec_of-three, pipe_spec_of-more)
+-- fewer than four parts say nothing of early drops, and so do five or more
+pub red_of_few : (base : PipeSpec) (parts : List (List ℕ)) → length parts < 4 → red_of_parts base parts ≡ None
+unfolding red_of_parts
+red_of_few base [] few = refl
+red_of_few base (a ∷ []) few = refl
+red_of_few base (a ∷ b ∷ []) few = refl
+red_of_few base (a ∷ b ∷ c ∷ []) few = refl
+red_of_few base (a ∷ b ∷ c ∷ d ∷ parts) few = absurd (omega (arith, few))
+
+pub red_of_more : (base : PipeSpec) (a b c d back : List ℕ) → red_of_parts base (a ∷ b ∷ c ∷ d ∷ colon_parts back) ≡ None
+unfolding red_of_parts
+red_of_more base a b c d back = from (colon_parts back) (colon_parts-some back)
+  where
+    from : (parts : List (List ℕ)) → (parts ≡ [] → ⊥) → red_of_parts base (a ∷ b ∷ c ∷ d ∷ parts) ≡ None
+    from [] some = absurd (some refl)
+    from (part ∷ parts) some = refl
+
+pub ruleset counts = (pipe_of_few, pipe_of_more, red_of_few, red_of_more)
 
 -- a text without a colon names no walk
 pub walk_of_one : (text : List ℕ) → colon_parts text ≡ text ∷ [] → walk_of (colon_parts text) ≡ None
@@ -82,3 +98,22 @@ walk_numbers_more text a b back parts = rw parts (from (colon_parts back) (colon
     from : (parts : List (List ℕ)) → (parts ≡ [] → ⊥) → walk_numbers (a ∷ b ∷ parts) ≡ None
     from [] some = absurd (some refl)
     from (part ∷ parts) some = refl
+
+-- fewer than three parts are no move, and so are four or more
+pub move_of_one : (word a : List ℕ) → colon_parts word ≡ a ∷ [] → move_spec_of word ≡ None
+unfolding move_spec_of move_of_parts
+move_of_one word a parts = rw parts refl
+
+pub move_of_two : (word a b : List ℕ) → colon_parts word ≡ a ∷ b ∷ [] → move_spec_of word ≡ None
+unfolding move_spec_of move_of_parts
+move_of_two word a b parts = rw parts refl
+
+pub move_of_more : (word a b c back : List ℕ) → colon_parts word ≡ a ∷ b ∷ c ∷ colon_parts back → move_spec_of word ≡ None
+unfolding move_spec_of move_of_parts
+move_of_more word a b c back parts = rw parts (from (colon_parts back) (colon_parts-some back))
+  where
+    from : (parts : List (List ℕ)) → (parts ≡ [] → ⊥) → move_of_parts (a ∷ b ∷ c ∷ parts) ≡ None
+    from [] some = absurd (some refl)
+    from (part ∷ parts) some = refl
+
+pub ruleset move_counts = (move_of_one, move_of_two, move_of_more)

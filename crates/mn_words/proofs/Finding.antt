@@ -3,7 +3,7 @@ use denote.Ref.{Bor}
 use Rattle.std.proofs.Common.{◌≡◌, ◌≤◌, ◌&&◌, ◌||◌, ℕ, Bool, length, Ok, true, false, not, List, [], ◌∷◌, Option, Some, None, is_some, is_none, refl, sym, ap, subst, ◌∙◌, arith}
 use Rattle.std.specs.Option.{option_copied}
 use Rattle.mn_words.specs.Items.{Item, items_of, is_cut, TakesFirst, TakesOneItem, TakesNoItem}
-use Rattle.mn_words.specs.Form.{Form, has_this_name, value_of, bare_words, takes, is_new, fits_before, fit, has_needed, has_pipes, has_form, is_some_word}
+use Rattle.mn_words.specs.Form.{Form, has_this_name, value_of, bare_words, takes, is_new, fits_before, fit, has_needed, has_bare, has_form, is_some_word}
 
 -- what was taken is the item that it is
 pub takes_nothing : (old new : List (List ℕ)) (next : Option Item) → next ≡ None → TakesFirst old new (Ok next) → TakesNoItem old false
@@ -117,10 +117,10 @@ some_word : (words : List (List ℕ)) → is_some_word words ≡ true → 1 ≤ 
 some_word [] some = absurd cc
 some_word (word ∷ words) some = omega arith
 
--- words of a form with PIPEs have one
-pub asks_pipes : (form : Form) (words : List (List ℕ)) → form.takes_pipes ≡ true → has_form form words ≡ true
+-- words of a form with bare words have one
+pub asks_bare : (form : Form) (words : List (List ℕ)) → form.takes_bare ≡ true → has_form form words ≡ true
     → 1 ≤ length (bare_words (items_of words))
-unfolding has_form has_pipes
-asks_pipes form words takes_them of_form = some_word (bare_words (items_of words))
+unfolding has_form has_bare
+asks_bare form words takes_them of_form = some_word (bare_words (items_of words))
     (sym (ap (λ b. not b || is_some_word (bare_words (items_of words))) takes_them)
-    ∙ last_of (not (is_cut words)) (fit form (items_of words)) (has_needed form (items_of words)) (has_pipes form (items_of words)) of_form)
+    ∙ last_of (not (is_cut words)) (fit form (items_of words)) (has_needed form (items_of words)) (has_bare form (items_of words)) of_form)

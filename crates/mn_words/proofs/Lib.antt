@@ -1,8 +1,10 @@
 pub mod Absent
 pub mod Asking
+pub mod BareLists
 pub mod ColonParts
 pub mod Finding
+pub mod MoveLists
 pub mod Names
-pub mod PipeLists
+pub mod RedPipes
 pub mod Runs
 pub mod Taking

@@ -1,7 +1,9 @@
 pub mod Form
 pub mod Items
+pub mod Moves
 pub mod Options
 pub mod Order
+pub mod Pipes
 pub mod Steps
 pub mod TheCommands
 pub mod Values

@@ -1,13 +1,12 @@
 -- What the text of a value says, where it is one that its option allows. A text is the list of its bytes; the colon is 58.
-use Rattle.std.specs.Prelude.{ℕ, Bool, true, false, ◌==◌, ◌&&◌, nat_le, List, [], ◌∷◌, Option, Some, None, length, bytes_eq, codes, if◌then◌else◌}
+use Rattle.std.specs.Prelude.{ℕ, Bool, true, false, ◌==◌, ◌&&◌, nat_le, List, [], ◌∷◌, Option, Some, None, bytes_eq, codes, if◌then◌else◌}
 use Rattle.std.specs.List.{slice_split}
-use Rattle.mn_base.specs.declared.limits.TheConstants.{BPS_MIN, BPS_MAX, LINK_LATENCY_US_MAX, QUEUE_MIN, QUEUE_MAX, LOSS_PPM_MAX, CHAIN_PIPES_MAX, FRONTIERS_MAX, CORES_MAX, TURNS_MAX, WORKLOAD_PACKETS_MAX, TICK_NS_MIN, TICK_NS_MAX}
+use Rattle.mn_base.specs.declared.limits.TheConstants.{FRONTIERS_MAX, CORES_MAX, TURNS_MAX, WORKLOAD_PACKETS_MAX, TICK_NS_MIN, TICK_NS_MAX}
 use Rattle.mn_base.specs.Decimal.{decimal_of}
 use Rattle.distill.specs.declared.modes.Mode.{Mode}
 use Rattle.distill.specs.declared.modes.Mode.TheVariants.{Hop, Walk, End, WalkOut}
 use Rattle.journal.specs.declared.setup.LossBy.{LossBy}
 use Rattle.journal.specs.declared.setup.LossBy.TheVariants.{Packet, Arrival}
-use Rattle.mn_words.specs.declared.order.PipeSpec.{PipeSpec}
 use Rattle.mn_words.specs.Steps.{◌>>=◌}
 
 -- the number that a plain decimal text writes, where it is from `least` to `most`
@@ -19,6 +18,11 @@ number_within least most text = do
 -- the parts of a text between its colons
 unfoldable pub colon_parts : List ℕ → List (List ℕ)
 colon_parts text = slice_split (λ b. b == 58) text
+
+-- the parts of what stands behind a colon, and none where there is none
+abbrev pub rest_parts : Option (List ℕ) → List (List ℕ)
+rest_parts None = []
+rest_parts (Some text) = colon_parts text
 
 -- a tick length, in ns
 abbrev pub tick_of : List ℕ → Option ℕ
@@ -76,28 +80,3 @@ mode_of text =
     if bytes_eq text (codes "hop") then Some Hop else
     if bytes_eq text (codes "end") then Some End else
     walk_of (colon_parts text)
-
--- the pipe of four parts: bandwidth in bit/s, latency in us, queue limit in packets, loss in ppm
-unfoldable pub pipe_of_parts : List (List ℕ) → Option PipeSpec
-pipe_of_parts (first ∷ second ∷ third ∷ fourth ∷ []) = do
-  bps ← number_within BPS_MIN BPS_MAX first
-  latency_us ← number_within 0 LINK_LATENCY_US_MAX second
-  queue ← number_within QUEUE_MIN QUEUE_MAX third
-  ppm ← number_within 0 LOSS_PPM_MAX fourth
-  Some (record { bps = bps; latency_us = latency_us; queue = queue; ppm = ppm })
-pipe_of_parts parts = None
-
-unfoldable pub pipe_spec_of : List ℕ → Option PipeSpec
-pipe_spec_of word = pipe_of_parts (colon_parts word)
-
--- the pipes of these words, in order
-unfoldable pub pipes_of : List (List ℕ) → Option (List PipeSpec)
-pipes_of [] = Some []
-pipes_of (word ∷ words) = do
-  pipe ← pipe_spec_of word
-  pipes ← pipes_of words
-  Some (pipe ∷ pipes)
-
--- the pipes of a chain, of which there are at most `CHAIN_PIPES_MAX`
-unfoldable pub chain_pipes : List (List ℕ) → Option (List PipeSpec)
-chain_pipes words = if nat_le (length words) CHAIN_PIPES_MAX then pipes_of words else None

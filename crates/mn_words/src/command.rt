@@ -12,6 +12,10 @@ pub enum Command {
     Rehearse,
     Emulate,
     Workload,
+    Journal,
+    Check,
+    Red,
+    Migrate,
 }
 
 /// The command of a word.
@@ -31,64 +35,80 @@ pub fn command_of(word: &str) -> Option<Command>
         Some(Command::Emulate)
     } else if word == "workload" {
         Some(Command::Workload)
+    } else if word == "journal" {
+        Some(Command::Journal)
+    } else if word == "check" {
+        Some(Command::Check)
+    } else if word == "red" {
+        Some(Command::Red)
+    } else if word == "migrate" {
+        Some(Command::Migrate)
     } else {
         None
     }
 }
+
+/// The options that a run on cores needs.
+const RUN_NEEDS: &[&str] = &["--topology", "--trace", "--out", "--report"];
+
+/// The options that a plan may have.
+const PLAN_MAY_HAVE: &[&str] = &[
+    "--mode",
+    "--cores",
+    "--seed",
+    "--tick-ns",
+    "--directory",
+    "--loss",
+];
+
+/// Those that a run on cores may have.
+const RUN_MAY_HAVE: &[&str] = &[
+    "--cluster-report",
+    "--mode",
+    "--cores",
+    "--seed",
+    "--tick-ns",
+    "--directory",
+    "--loss",
+];
+
+/// And those that a run in chosen turns may have.
+const TURNS_MAY_HAVE: &[&str] = &[
+    "--order",
+    "--turns",
+    "--cluster-report",
+    "--mode",
+    "--cores",
+    "--seed",
+    "--tick-ns",
+    "--directory",
+    "--loss",
+];
 
 /// The form of each command: a row of the table.
 #[tactic(auto, unfolding(crate::specs::TheCommands::form_of))]
 pub fn form_of(command: Command) -> Form
     ensures { result ≡ form_of command }
 {
-    match command {
-        Command::Chain => Form {
-            needs: &["--trace", "--out", "--report"],
-            may_have: &["--tick-ns", "--seed", "--loss"],
-            takes_pipes: true,
-        },
-        Command::Distill => Form {
-            needs: &["--topology"],
-            may_have: &["--mode", "--tick-ns"],
-            takes_pipes: false,
-        },
-        Command::Assign => Form {
-            needs: &["--topology"],
-            may_have: &["--mode", "--cores"],
-            takes_pipes: false,
-        },
-        Command::Rehearse => Form {
-            needs: &["--topology", "--trace", "--out", "--report"],
-            may_have: &[
-                "--order",
-                "--turns",
-                "--mode",
-                "--cores",
-                "--seed",
-                "--tick-ns",
-                "--directory",
-                "--cluster-report",
-                "--loss",
-            ],
-            takes_pipes: false,
-        },
-        Command::Emulate => Form {
-            needs: &["--topology", "--trace", "--out", "--report"],
-            may_have: &[
-                "--mode",
-                "--cores",
-                "--seed",
-                "--tick-ns",
-                "--directory",
-                "--cluster-report",
-                "--loss",
-            ],
-            takes_pipes: false,
-        },
-        Command::Workload => Form {
-            needs: &["--number"],
-            may_have: &["--packets", "--cores"],
-            takes_pipes: false,
-        },
+    let (needs, may_have): (&[&str], &[&str]) = match command {
+        Command::Chain => (
+            &["--trace", "--out", "--report"],
+            &["--tick-ns", "--seed", "--loss"],
+        ),
+        Command::Distill => (&["--topology"], &["--mode", "--tick-ns"]),
+        Command::Assign => (&["--topology"], &["--mode", "--cores"]),
+        Command::Rehearse => (RUN_NEEDS, TURNS_MAY_HAVE),
+        Command::Emulate => (RUN_NEEDS, RUN_MAY_HAVE),
+        Command::Workload => (&["--number"], &["--packets", "--cores"]),
+        Command::Journal => (&["--topology", "--trace", "--out"], PLAN_MAY_HAVE),
+        Command::Check => (&["--topology", "--trace", "--journal"], PLAN_MAY_HAVE),
+        Command::Red => (&["--trace", "--out", "--report"], &["--tick-ns", "--seed"]),
+        Command::Migrate => (RUN_NEEDS, PLAN_MAY_HAVE),
+    };
+    let takes_bare = matches!(command, Command::Chain | Command::Red | Command::Migrate);
+    Form {
+        needs,
+        may_have,
+        takes_bare,
     }
 }

@@ -1,18 +1,18 @@
 ghost use Rattle.std.specs.Prelude.{◌≡◌, ◌&&◌, not, option_copied, is_some, bytes_eq, Some, None};
 ghost use Rattle.std.specs.List.{list_any, list_all};
 ghost use Rattle.mn_words.specs.Items.{items_of, is_cut};
-ghost use Rattle.mn_words.specs.Form.{value_of, takes, fits_before, fit, has_needed, has_pipes, has_form};
+ghost use Rattle.mn_words.specs.Form.{value_of, takes, fits_before, fit, has_needed, has_bare, has_form};
 
 use crate::rest::{Item, Rest};
 use std::marker::Model;
 
 /// The form of a command: the names of the options that are required, those of the options that may stand, too, and whether
-/// there are PIPEs.
+/// there are PIPEs or MOVEs.
 #[derive(Drop)]
 pub struct Form {
     pub needs: &'static [&'static str],
     pub may_have: &'static [&'static str],
-    pub takes_pipes: bool,
+    pub takes_bare: bool,
 }
 
 impl Model for Form {
@@ -24,7 +24,7 @@ impl Model for Form {
     ghost view = { λ form. record {
       needs = map (λ name. name.now) form.needs.now;
       may_have = map (λ name. name.now) form.may_have.now;
-      takes_pipes = form.takes_pipes;
+      takes_bare = form.takes_bare;
     } };
 }
 
@@ -34,7 +34,7 @@ impl Form {
     pub fn has_form(&self, words: Rest) -> bool
         ensures { result ≡ has_form self.now words.entry }
     {
-        self.fit(words.again()) && self.has_needed(words.again()) && self.has_pipes(words)
+        self.fit(words.again()) && self.has_needed(words.again()) && self.has_bare(words)
     }
 
     /// Whether no value is missing at the end, each item is one of the form, and no option stands twice.
@@ -60,7 +60,7 @@ impl Form {
         ensures { result ≡ fits_before self.now item.now (items_of after.entry) }
     {
         match item.name {
-            None => self.takes_pipes,
+            None => self.takes_bare,
             Some(name) => self.takes_option(name) && !has_option(after, name),
         }
     }
@@ -81,12 +81,12 @@ impl Form {
         has_options(words, self.needs)
     }
 
-    /// Whether a PIPE stands where the form has PIPEs.
-    #[tactic(auto, unfolding(crate::specs::Form::has_pipes))]
-    fn has_pipes(&self, mut words: Rest) -> bool
-        ensures { result ≡ has_pipes self.now (items_of words.entry) }
+    /// Whether a PIPE or MOVE stands where the form has them.
+    #[tactic(auto, unfolding(crate::specs::Form::has_bare))]
+    fn has_bare(&self, mut words: Rest) -> bool
+        ensures { result ≡ has_bare self.now (items_of words.entry) }
     {
-        !self.takes_pipes || words.next_bare().is_some()
+        !self.takes_bare || words.next_bare().is_some()
     }
 }
 

@@ -5,11 +5,14 @@
 //! the items of a list of words (specs/Items.antt).
 #![tactic(auto)]
 
+mod bare;
 mod command;
 mod form;
+mod moves;
 mod opt;
 mod options;
 mod order;
+mod parts;
 mod pipes;
 mod rest;
 mod values;
@@ -17,7 +20,8 @@ mod words;
 
 pub use opt::{Opt, WordsFault};
 pub use order::{
-    AssignOrder, ChainOrder, DistillOrder, FileName, Order, PipeSpec, RunOrder, WorkloadOrder,
+    AssignOrder, ChainOrder, CheckOrder, DistillOrder, FileName, JournalOrder, MigrateOrder,
+    MoveSpec, Order, PipeSpec, RedOrder, RedSpec, RunOrder, WorkloadOrder,
 };
 pub use words::read_words;
 

@@ -1,6 +1,6 @@
 use mn_base::Refusal;
 
-/// An option of a command, or its PIPE words.
+/// An option of a command, or its PIPE or MOVE words.
 #[derive(Clone, Copy, Debug, PartialEq, Eq)]
 pub enum Opt {
     Mode,
@@ -14,6 +14,7 @@ pub enum Opt {
     Packets,
     Pipe,
     Loss,
+    Move,
 }
 
 /// What is wrong with the words of a command line.

@@ -5,11 +5,12 @@ ghost use Rattle.distill.specs.Modes.{IsMode};
 ghost use Rattle.mn_words.specs.Form.{value_of};
 ghost use Rattle.mn_words.specs.Items.{items_of};
 ghost use Rattle.mn_words.specs.Options.{mode_in, cores_in, seed_in, tick_in, cluster_report_in, order_in, turns_in, workload_number_in, packets_in, loss_in, text_in};
-ghost use Rattle.mn_words.specs.Order.{IsCoreCount};
+ghost use Rattle.mn_words.specs.Order.{ArePlanOptions, IsCoreCount};
+ghost use Rattle.mn_words.specs.TheCommands.{plan_options_in};
 
 use crate::form::value_of;
 use crate::opt::{Opt, WordsFault};
-use crate::order::FileName;
+use crate::order::{FileName, PlanOptions};
 use crate::rest::Rest;
 use crate::values::{cores_of, loss_of, mode_of, packets_of, tick_of, turns_of, yes_or_no};
 use distill::Mode;
@@ -127,6 +128,26 @@ pub fn loss_in(words: Rest) -> Result<LossBy, WordsFault>
         None => Ok(LossBy::Packet),
         Some(text) => loss_of(text).ok_or(WordsFault::Value(Opt::Loss)),
     }
+}
+
+/// The options on which a plan depends, beside its files.
+#[tactic(auto, unfolding(crate::specs::TheCommands::plan_options_in))]
+pub fn plan_options_in(words: Rest) -> Result<PlanOptions, WordsFault>
+    ensures value { result ≡ plan_options_in (items_of words.entry) }
+    ensures ranges { IfOk result ArePlanOptions }
+{
+    let mode = mode_in(words.again())?;
+    let cores = cores_in(words.again(), 1)?;
+    let seed = seed_in(words.again())?;
+    let tick_ns = tick_in(words.again())?;
+    let loss = loss_in(words)?;
+    Ok(PlanOptions {
+        mode,
+        cores,
+        seed,
+        tick_ns,
+        loss,
+    })
 }
 
 /// The file that an option names, which stands.

@@ -1,21 +1,20 @@
-ghost use Rattle.std.specs.Prelude.{◌≡◌, ◌≤◌, [], ◌∷◌, IfSome, MatchOption, None};
+ghost use Rattle.std.specs.Prelude.{◌≡◌, ◌≤◌, IfSome};
 ghost use Rattle.mn_base.specs.Ranges.{IsTickLength};
 ghost use Rattle.distill.specs.Modes.{IsFrontierCount, IsMode};
-ghost use Rattle.mn_words.specs.Values.{number_within, colon_parts, pipe_spec_of, tick_of, cores_of, turns_of, packets_of, yes_or_no, loss_of, mode_of, walk_of, walk_numbers, frontier_count};
-ghost use Rattle.mn_words.specs.Order.{IsCoreCount, IsPipeSpec};
+ghost use Rattle.mn_words.specs.Values.{number_within, colon_parts, tick_of, cores_of, turns_of, packets_of, yes_or_no, loss_of, mode_of, walk_of, walk_numbers, frontier_count};
+ghost use Rattle.mn_words.specs.Order.{IsCoreCount};
 
-use crate::order::PipeSpec;
+use crate::parts::first_part;
 use distill::Mode;
 use journal::LossBy;
 use mn_base::limits::{
-    BPS_MAX, BPS_MIN, CORES_MAX, FRONTIERS_MAX, LINK_LATENCY_US_MAX, LOSS_PPM_MAX, QUEUE_MAX,
-    QUEUE_MIN, TICK_NS_MAX, TICK_NS_MIN, TURNS_MAX, WORKLOAD_PACKETS_MAX,
+    CORES_MAX, FRONTIERS_MAX, TICK_NS_MAX, TICK_NS_MIN, TURNS_MAX, WORKLOAD_PACKETS_MAX,
 };
 use mn_base::read_u64;
 
 /// The number that a plain decimal text writes, where it is from `least` to `most`.
 #[tactic(auto, unfolding(crate::specs::Values::number_within))]
-fn number_within(text: &str, least: u64, most: u64) -> Option<u64>
+pub fn number_within(text: &str, least: u64, most: u64) -> Option<u64>
     ensures value { result ≡ number_within least most text.now }
     ensures least { IfSome result (λ number. least ≤ number) }
     ensures most { IfSome result (λ number. number ≤ most) }
@@ -146,62 +145,4 @@ fn frontier_count(text: &str) -> Option<u32>
 {
     let count = number_within(text, 1, u64::from(FRONTIERS_MAX))?;
     Some(count as u32)
-}
-
-/// The pipe that a word `BPS:LATENCY_US:QUEUE:PPM` names: four plain decimals in the ranges of a link.
-///
-/// `8000000:5000:50:0` has 8 Mbit/s, 5 ms, room for 50 packets and no loss.
-#[tactic(auto, unfolding(crate::specs::Values::pipe_spec_of, crate::specs::Values::pipe_of_parts))]
-pub fn pipe_spec_of(word: &str) -> Option<PipeSpec>
-    ensures value { result ≡ pipe_spec_of word.now }
-    ensures ranges { IfSome result IsPipeSpec }
-{
-    let parts = pipe_parts(word)?;
-    let bps = number_within(parts.bps, BPS_MIN, BPS_MAX)?;
-    let latency_us = number_within(parts.latency_us, 0, u64::from(LINK_LATENCY_US_MAX))?;
-    let queue = number_within(parts.queue, u64::from(QUEUE_MIN), u64::from(QUEUE_MAX))?;
-    let ppm = number_within(parts.ppm, 0, u64::from(LOSS_PPM_MAX))?;
-    Some(PipeSpec {
-        bps,
-        latency_us: latency_us as u32,
-        queue: queue as u32,
-        ppm: ppm as u32,
-    })
-}
-
-/// The four parts of a PIPE, as texts.
-#[derive(Drop)]
-struct PipeParts<'w> {
-    bps: &'w str,
-    latency_us: &'w str,
-    queue: &'w str,
-    ppm: &'w str,
-}
-
-#[tactic(auto, using(crate::proofs::ColonParts::counts))]
-fn pipe_parts(word: &str) -> Option<PipeParts<'_>>
-    ensures { MatchOption result (pipe_spec_of word.now ≡ None)
-        (λ f. colon_parts word.now ≡ f.bps.now ∷ f.latency_us.now ∷ f.queue.now ∷ f.ppm.now ∷ []) }
-{
-    let (bps, rest) = first_part(word)?;
-    let (latency_us, rest) = first_part(rest)?;
-    let (queue, ppm) = first_part(rest)?;
-    if first_part(ppm).is_some() {
-        return None;
-    }
-    Some(PipeParts {
-        bps,
-        latency_us,
-        queue,
-        ppm,
-    })
-}
-
-/// The text before the first colon, and what stands behind it.
-#[tactic(auto, using(crate::proofs::ColonParts::cuts))]
-fn first_part(text: &str) -> Option<(&str, &str)>
-    ensures { MatchOption result (colon_parts text.now ≡ text.now ∷ [])
-        (λ parts. colon_parts text.now ≡ parts.0.now ∷ colon_parts parts.1.now) }
-{
-    text.split_once(':')
 }

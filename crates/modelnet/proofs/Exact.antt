@@ -5,7 +5,7 @@ use Rattle.std.specs.Io.KnownBytes.{prepend_known, IsAtEnd}
 use Rattle.mn_edge.specs.declared.role.Role.{Role}
 use Rattle.mn_edge.specs.Part.{Part}
 use Rattle.modelnet.specs.declared.status.Status.{Status}
-use Rattle.modelnet.specs.declared.status.Status.TheVariants.{Done, NoMemory, BadWords, BadTopology, BadTrace, BadPlan, ReadFault, WriteFault, TooLarge, BadCapture}
+use Rattle.modelnet.specs.declared.status.Status.TheVariants.{Done, NoMemory, BadWords, BadTopology, BadTrace, BadPlan, ReadFault, WriteFault, TooLarge, BadJournal, BadMove, BadCapture}
 use Rattle.modelnet.specs.Roles.{Input, WasRead, IsReading}
 use Rattle.modelnet.specs.Commands.{Host, Command, ReadInputs, inputs_of, bytes_read, bytes_written, AreRead, Passes, FewerPass, IsRefused, Answered}
 use Rattle.modelnet.specs.Exact.{IsQuiet, IsOrNoMemory, Accepts, MustAnswer, IsSoundCommand}
@@ -127,6 +127,8 @@ must_answer c sound old new (BadWords fault) a = absurd a
 must_answer c sound old new (BadTopology fault) a = at_a_refusal c sound old new (BadTopology fault) a
 must_answer c sound old new (BadTrace fault) a = at_a_refusal c sound old new (BadTrace fault) a
 must_answer c sound old new (BadPlan fault) a = at_a_refusal c sound old new (BadPlan fault) a
+must_answer c sound old new (BadJournal fault) a = at_a_refusal c sound old new (BadJournal fault) a
+must_answer c sound old new (BadMove number) a = at_a_refusal c sound old new (BadMove number) a
 must_answer c sound old new (BadCapture fault) a = at_a_refusal c sound old new (BadCapture fault) a
 must_answer c sound old new (ReadFault role) a =
     whole_command c old new (ReadFault role) a.reads (a.at ∷ a.later) a.inputs a.stopped.read (pass_fewer c (bytes_read a.reads) a.passes) (

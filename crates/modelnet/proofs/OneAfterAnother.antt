@@ -4,7 +4,7 @@ use Rattle.std.proofs.lemmas.List.{append-nil}
 use Rattle.mn_edge.specs.declared.role.Role.{Role}
 use Rattle.mn_edge.specs.Part.{Part}
 use Rattle.modelnet.specs.declared.status.Status.{Status}
-use Rattle.modelnet.specs.declared.status.Status.TheVariants.{Done, NoMemory, BadWords, BadTopology, BadTrace, BadPlan, ReadFault, WriteFault, TooLarge, BadCapture}
+use Rattle.modelnet.specs.declared.status.Status.TheVariants.{Done, NoMemory, BadWords, BadTopology, BadTrace, BadPlan, ReadFault, WriteFault, TooLarge, BadJournal, BadMove, BadCapture}
 use Rattle.modelnet.specs.Commands.{Host, Command, ReadInputs, WrittenOutputs, inputs_of, bytes_read, outputs_of, bytes_written, ReadsNot, WritesNot, AreRead, AreWritten, Stands, StopsAt, Passes, FewerPass, IsRefused, Answered}
 use Rattle.modelnet.specs.Exact.{Accepts, IsSoundCommand, IsRefusal, NoMemoryOrRefuses}
 use Rattle.modelnet.specs.Progress.{HasJustRead, HasRead, HasWritten}
@@ -21,7 +21,7 @@ inputs_push : (reads : ReadInputs) (r : Input × List ℕ) (later : List Input)
 inputs_push [] r later = refl
 inputs_push (q ∷ reads) r later = ap (λ inputs. q.0 ∷ inputs) (inputs_push reads r later)
 
-bytes_read_push : (reads : ReadInputs) (r : Input × List ℕ) → bytes_read (reads ++ r ∷ []) ≡ bytes_read reads ++ r.1 ∷ []
+pub bytes_read_push : (reads : ReadInputs) (r : Input × List ℕ) → bytes_read (reads ++ r ∷ []) ≡ bytes_read reads ++ r.1 ∷ []
 bytes_read_push [] r = refl
 bytes_read_push (q ∷ reads) r = ap (λ bytes. q.1 ∷ bytes) (bytes_read_push reads r)
 
@@ -51,7 +51,7 @@ reads_not_split : (inputs : List Input) (at : Input) (later : List Input) (role 
 reads_not_split [] at later role none = (tt, none.0)
 reads_not_split (i ∷ inputs) at later role none = let rest = reads_not_split inputs at later role none.1 in ((none.0, rest.0), rest.1)
 
-reads_not_front : (inputs later : List Input) (role : Role) → ReadsNot (inputs ++ later) role → ReadsNot inputs role
+pub reads_not_front : (inputs later : List Input) (role : Role) → ReadsNot (inputs ++ later) role → ReadsNot inputs role
 reads_not_front [] later role none = tt
 reads_not_front (i ∷ inputs) later role none = (none.0, reads_not_front inputs later role none.1)
 
@@ -275,6 +275,8 @@ refused c reads later status old new refusals so (inr is) = by_kind status is (r
     by_kind (BadTopology fault) is none_of = by_bytes (BadTopology fault) is
     by_kind (BadTrace fault) is none_of = by_bytes (BadTrace fault) is
     by_kind (BadPlan fault) is none_of = by_bytes (BadPlan fault) is
+    by_kind (BadJournal fault) is none_of = by_bytes (BadJournal fault) is
+    by_kind (BadMove number) is none_of = by_bytes (BadMove number) is
     by_kind (BadCapture fault) is none_of = by_bytes (BadCapture fault) is
 
 -- the next input was read whole, and its bytes are refused

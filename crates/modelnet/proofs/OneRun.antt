@@ -82,7 +82,7 @@ same_parts order trace S R is also =
     let pipes : S.pipes ≡ R.pipes = one_list order.tick_ns order.pipes S.pipes R.pipes is.pipes also.pipes in cc
 
 -- an order and a trace have one setup
-one_setup : (order : ChainView) (trace : Capture) (S R : SetupView) → IsChainSetup order trace S → IsChainSetup order trace R → S ≡ R
+pub one_setup : (order : ChainView) (trace : Capture) (S R : SetupView) → IsChainSetup order trace S → IsChainSetup order trace R → S ≡ R
 unfolding setup_of_parts
 one_setup order trace S R is also = same_parts order trace S R is also
 

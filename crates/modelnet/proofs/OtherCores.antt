@@ -26,7 +26,8 @@ use Rattle.plan.specs.Setups.{IsChangeTo, IsDirectedBy, IsPlanOver, IsPlan}
 use Rattle.plan.proofs.OnePlan.{bindings_once}
 use Rattle.mn_words.specs.Order.{RunView}
 use Rattle.modelnet.specs.Running.{options_of}
-use Rattle.modelnet.specs.TheCommands.{IsDirectoryRead, RunPlans}
+use Rattle.modelnet.specs.Planning.{IsDirectoryRead}
+use Rattle.modelnet.specs.TheCommands.{RunPlans}
 use Rattle.modelnet.proofs.OneRun.{DifferingPlans, same_outputs}
 use Rattle.modelnet.specs.OtherCores.{AskForOneRun, CoresChangeNoOutput, SayNoChange, OwnersChangeNoOutput}
 

@@ -3,7 +3,7 @@ use Rattle.std.proofs.Common.{◌≡◌, ℕ, Bool, true, false, cond, List, [],
 use Rattle.std.proofs.lemmas.Bool.{true≢false}
 use Rattle.mn_words.specs.declared.opt.WordsFault.TheVariants.{Command}
 use Rattle.mn_words.specs.declared.order.Order.{Order}
-use Rattle.mn_words.specs.declared.order.Order.TheVariants.{Chain, Distill, Assign, Rehearse, Emulate, Workload}
+use Rattle.mn_words.specs.declared.order.Order.TheVariants.{Chain, Distill, Assign, Rehearse, Emulate, Workload, Journal, Check, Red, Migrate}
 use Rattle.mn_words.specs.Order.{RunView}
 use Rattle.mn_words.specs.Words.{ordered}
 use Rattle.mn_words.proofs.Asking.{emulates_by_name}
@@ -38,3 +38,7 @@ wants_no_threads words (Assign order) other is = tt
 wants_no_threads words (Rehearse order) other is = tt
 wants_no_threads words (Emulate order) other is = absurd (true≢false (sym (asks_by_name words order is) ∙ other))
 wants_no_threads words (Workload order) other is = tt
+wants_no_threads words (Journal order) other is = tt
+wants_no_threads words (Check order) other is = tt
+wants_no_threads words (Red order) other is = tt
+wants_no_threads words (Migrate order) other is = tt

@@ -1,7 +1,7 @@
 -- The commands are sound, and so a command line is answered exactly.
 use Rattle.std.proofs.Common.{◌≡◌, ℕ, List, Ok, Err, refl, sym, ◌∙◌, ap, subst, inl, inr}
 use Rattle.mn_words.specs.declared.order.Order.{Order}
-use Rattle.mn_words.specs.declared.order.Order.TheVariants.{Chain, Distill, Assign, Rehearse, Emulate, Workload}
+use Rattle.mn_words.specs.declared.order.Order.TheVariants.{Chain, Distill, Assign, Rehearse, Emulate, Workload, Journal, Check, Red, Migrate}
 use Rattle.mn_words.specs.declared.opt.WordsFault.{WordsFault}
 use Rattle.mn_words.specs.Words.{ordered}
 use Rattle.core_loop.specs.TallyView.{TallyView}
@@ -14,8 +14,12 @@ use Rattle.modelnet.specs.TheCommands.{row_of}
 use Rattle.modelnet.specs.Answers.{Asked, IsOrdered, Answers, IsExact, Tallies, WordsAndBytesHaveOneOutcome}
 use Rattle.modelnet.proofs.Exact.{must_answer}
 use Rattle.modelnet.proofs.AssignSound.{assign_is_sound}
-use Rattle.modelnet.proofs.ChainSound.{chain_is_sound}
 use Rattle.modelnet.proofs.DistillSound.{distill_is_sound}
+use Rattle.modelnet.proofs.CheckSound.{check_is_sound}
+use Rattle.modelnet.proofs.JournalSound.{journal_is_sound}
+use Rattle.modelnet.proofs.MigrateSound.{migrate_is_sound}
+use Rattle.modelnet.proofs.RedSound.{red_is_sound}
+use Rattle.modelnet.proofs.ReplaySound.{chain_is_sound}
 use Rattle.modelnet.proofs.RunSound.{run_is_sound}
 use Rattle.modelnet.proofs.WorkloadSound.{workload_is_sound}
 
@@ -26,6 +30,10 @@ is_sound limits (Assign order) = assign_is_sound limits order
 is_sound limits (Rehearse order) = run_is_sound limits order
 is_sound limits (Emulate order) = run_is_sound limits order
 is_sound limits (Workload order) = workload_is_sound order
+is_sound limits (Journal order) = journal_is_sound limits order
+is_sound limits (Check order) = check_is_sound limits order
+is_sound limits (Red order) = red_is_sound limits order
+is_sound limits (Migrate order) = migrate_is_sound limits order
 
 -- words ask for one order
 one_order : (asked : Asked) (one other : Order) → asked ≡ Ok one → asked ≡ Ok other → one ≡ other

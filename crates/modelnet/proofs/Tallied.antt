@@ -1,19 +1,21 @@
 -- What is in the tally after a command.
 use Rattle.std.proofs.Common.{◌≡◌, ◌≢◌, ◌⊎◌, ℕ, List, [], ◌∷◌, refl, sym, subst, inl, inr}
 use Rattle.mn_edge.specs.declared.role.Role.{Role}
-use Rattle.mn_edge.specs.declared.role.Role.TheVariants.{Topology, Trace, Directory, Out, Report, Screen}
+use Rattle.mn_edge.specs.declared.role.Role.TheVariants.{Out, Report, Screen}
 use Rattle.core_loop.specs.TallyView.{TallyView}
 use Rattle.mn_words.specs.Order.{RunView}
 use Rattle.plan.specs.PlannedView.{PlannedView}
 use Rattle.modelnet.specs.declared.read_limits.ReadLimits.{ReadLimits}
 use Rattle.modelnet.specs.declared.status.Status.{Status}
-use Rattle.modelnet.specs.declared.status.Status.TheVariants.{Done, NoMemory, BadWords, BadTopology, BadTrace, BadPlan, ReadFault, WriteFault, TooLarge, BadCapture}
-use Rattle.modelnet.specs.Roles.{WasRead}
-use Rattle.modelnet.specs.Commands.{Host, Command, ReadInputs, ReadsNot, inputs_of, bytes_read, AreRead, Answered, HasCounted, TallyAfter}
+use Rattle.modelnet.specs.declared.status.Status.TheVariants.{Done, NoMemory, BadWords, BadTopology, BadTrace, BadPlan, ReadFault, WriteFault, TooLarge, BadJournal, BadMove, BadCapture}
+use Rattle.modelnet.specs.Roles.{Output, output}
+use Rattle.modelnet.specs.Commands.{Host, Command, bytes_read, Answered, HasCounted, TallyAfter}
 use Rattle.modelnet.specs.Running.{CountsRun}
-use Rattle.modelnet.specs.RunSteps.{HasPlan}
-use Rattle.modelnet.specs.TheCommands.{run_command, run_adds}
-use Rattle.modelnet.proofs.RunWrites.{out_is_unread, report_is_unread, screen_is_unread}
+use Rattle.modelnet.specs.PlanSteps.{HasPlan}
+use Rattle.modelnet.specs.TheCommands.{run_planning, run_command, run_adds}
+use Rattle.modelnet.proofs.Halves.{AreApart, stay_read}
+use Rattle.modelnet.proofs.PlanReads.{plan_inputs}
+use Rattle.modelnet.proofs.RunEnds.{out_is_unread, report_is_unread, screen_is_unread}
 
 -- what was counted may stand in the tally after any answer
 pub counted_after : (c : Command) (old new : Host) (before after : TallyView) (answer : Status) → HasCounted c old new before after
@@ -27,6 +29,8 @@ counted_after c old new before after (BadPlan fault) has = inr has
 counted_after c old new before after (ReadFault role) has = inr has
 counted_after c old new before after (WriteFault role) has = inr has
 counted_after c old new before after (TooLarge role) has = inr has
+counted_after c old new before after (BadJournal fault) has = inr has
+counted_after c old new before after (BadMove number) has = inr has
 counted_after c old new before after (BadCapture fault) has = inr has
 
 -- a command that adds nothing leaves the tally as it was
@@ -47,39 +51,33 @@ adds_none c old new tally (BadPlan fault) nothing a = inl refl
 adds_none c old new tally (ReadFault role) nothing a = inl refl
 adds_none c old new tally (WriteFault role) nothing a = inl refl
 adds_none c old new tally (TooLarge role) nothing a = inl refl
+adds_none c old new tally (BadJournal fault) nothing a = inl refl
+adds_none c old new tally (BadMove number) nothing a = inl refl
 adds_none c old new tally (BadCapture fault) nothing a = inl refl
 
--- inputs stay as they were read while no call is made on them
-stay_read : (reads : ReadInputs) (old mid new : Host)
-    → ((role : Role) → role ≢ Out → role ≢ Report → role ≢ Screen → new role ≡ mid role)
-    → ReadsNot (inputs_of reads) Out → ReadsNot (inputs_of reads) Report → ReadsNot (inputs_of reads) Screen
-    → AreRead reads old mid → AreRead reads old new
-stay_read [] old mid new others out report screen are = tt
-stay_read (r ∷ reads) old mid new others out report screen are =
-    let same : new r.0.role ≡ mid r.0.role =
-    others r.0.role (λ is. out.0 (sym is)) (λ is. report.0 (sym is)) (λ is. screen.0 (sym is)) in (
-      subst (λ part. WasRead r.0.name r.1 (old r.0.role) part) (sym same) are.0,
-      are.1,
-      stay_read reads old mid new others out.1 report.1 screen.1 are.2,
-    )
+-- the outputs of a run, whatever their names
+abbrev run_outputs : List Output
+run_outputs = output Out [] ∷ output Report [] ∷ output Screen [] ∷ []
 
 -- a run was counted, and its inputs stand as they were read
 pub run_is_counted : (limits : ReadLimits) (order : RunView) (old mid new : Host) (planned : PlannedView) (before after : TallyView)
-    → HasPlan limits order old mid planned → CountsRun planned.setup before after
+    → HasPlan limits (run_planning order) old mid planned → CountsRun planned.setup before after
     → ((role : Role) → role ≢ Out → role ≢ Report → role ≢ Screen → new role ≡ mid role)
     → HasCounted (run_command limits order) old new before after
 run_is_counted limits order old mid new planned before after has counts others = record {
   reads = has.reads;
-  inputs = has.inputs;
-  read = stay_read has.reads old mid new others (out_is_unread limits order has.reads has.inputs)
-      (report_is_unread limits order has.reads has.inputs) (screen_is_unread limits order has.reads has.inputs) has.stands.read;
+  inputs = plan_inputs limits (run_planning order) old mid planned has;
+  read = stay_read has.reads run_outputs old mid new (subst (λ is. AreApart is run_outputs)
+      (plan_inputs limits (run_planning order) old mid planned has)
+      (out_is_unread limits (run_planning order), (report_is_unread limits (run_planning order), (screen_is_unread limits (run_planning order), tt))))
+      (λ role unwritten. others role unwritten.0 unwritten.1.0 unwritten.1.1.0) has.so_far.stands.read;
   adds = subst (λ bytes. run_adds order bytes before after) (sym has.bytes_are)
       (record { planned = planned; plans = has.plans; counts = counts });
 }
 
 -- memory was refused after the plan, before or after the cores were counted
 pub run_may_be_counted : (limits : ReadLimits) (order : RunView) (old new : Host) (planned : PlannedView) (before after : TallyView)
-    → HasPlan limits order old new planned → (after ≡ before) ⊎ CountsRun planned.setup before after
+    → HasPlan limits (run_planning order) old new planned → (after ≡ before) ⊎ CountsRun planned.setup before after
     → TallyAfter (run_command limits order) old new before after NoMemory
 run_may_be_counted limits order old new planned before after has (inl same) = inl same
 run_may_be_counted limits order old new planned before after has (inr counts) =
@@ -97,4 +95,6 @@ stays_after c old new tally (BadPlan fault) early = inl refl
 stays_after c old new tally (ReadFault role) early = inl refl
 stays_after c old new tally (WriteFault role) early = inl refl
 stays_after c old new tally (TooLarge role) early = inl refl
+stays_after c old new tally (BadJournal fault) early = inl refl
+stays_after c old new tally (BadMove number) early = inl refl
 stays_after c old new tally (BadCapture fault) early = inl refl

@@ -5,10 +5,11 @@ use Rattle.pcap_io.specs.Writing.{pcap_text}
 use Rattle.pcapng_in.specs.Reading.{Pcapng}
 use Rattle.pcapng_in.specs.CaptureFile.{BeginsNg}
 use Rattle.mn_words.specs.Order.{ChainView}
-use Rattle.modelnet.specs.TheCommands.{chain_writes}
+use Rattle.modelnet.specs.Run.{SaysRun}
+use Rattle.modelnet.specs.TheCommands.{replay_writes}
 
 -- `chain` writes the same for a pcapng file and for what is written of its trace as a classic capture
 abbrev pub PcapngIsReplayedAsItsCopy : Type 0
 PcapngIsReplayedAsItsCopy = (order : ChainView) (text : List ℕ) (trace : Capture) (written : List (List ℕ))
     → BeginsNg text → Pcapng text trace
-    → chain_writes order (text ∷ []) written ↔ chain_writes order (pcap_text trace ∷ []) written
+    → replay_writes (SaysRun order) (text ∷ []) written ↔ replay_writes (SaysRun order) (pcap_text trace ∷ []) written

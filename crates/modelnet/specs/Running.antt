@@ -73,3 +73,9 @@ pub record HaveShortBytes (S : SetupView) (results : List CoreResultView) : Type
   pub bytes : List (List ℕ)
   pub results_are : AreResults S bytes results
   pub short : All (λ b. length b ≤ PACKET_BYTES_MAX) bytes
+
+-- this is the outcome of a setup, and no packet of it is longer than a packet may be
+pub record HasShortBytes (S : SetupView) (outcome : OutcomeView) : Type 0 where
+  pub bytes : List (List ℕ)
+  pub outcome_is : IsOutcome S (journal_of S) bytes outcome
+  pub short : All (λ b. length b ≤ PACKET_BYTES_MAX) bytes

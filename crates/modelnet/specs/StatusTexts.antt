@@ -12,12 +12,14 @@ use Rattle.mn_words.specs.declared.opt.WordsFault.{WordsFault}
 use Rattle.mn_words.specs.declared.opt.WordsFault.TheVariants.{Command, Form, Value}
 use Rattle.changes.specs.declared.faults.ChangesFault.{ChangesFault}
 use Rattle.changes.specs.declared.faults.ChangesFault.TheVariants as changes
+use Rattle.journal_check.specs.declared.fault.JournalFault.{JournalFault}
+use Rattle.journal_check.specs.declared.fault.JournalFault.TheVariants as differs
 use Rattle.ownership.specs.declared.faults.AssignFault.{AssignFault}
 use Rattle.ownership.specs.declared.faults.AssignFault.TheVariants as assign
 use Rattle.plan.specs.declared.faults.PlanFault.{PlanFault}
 use Rattle.plan.specs.declared.faults.PlanFault.TheVariants.{TooManyPipes, Changes, Assign}
 use Rattle.modelnet.specs.declared.status.Status.{Status}
-use Rattle.modelnet.specs.declared.status.Status.TheVariants.{Done, NoMemory, BadWords, BadTopology, BadTrace, BadPlan, ReadFault, WriteFault, TooLarge, BadCapture}
+use Rattle.modelnet.specs.declared.status.Status.TheVariants.{Done, NoMemory, BadWords, BadTopology, BadTrace, BadPlan, ReadFault, WriteFault, TooLarge, BadJournal, BadMove, BadCapture}
 
 -- the program's name, a text, and a line feed
 abbrev pub program_line : List ℕ → List ℕ
@@ -35,11 +37,13 @@ opt_name opt.Number = codes "--number"
 opt_name opt.Packets = codes "--packets"
 opt_name opt.Pipe = codes "PIPE"
 opt_name opt.Loss = codes "--loss"
+opt_name opt.Move = codes "MOVE"
 
 abbrev pub role_name : Role → List ℕ
 role_name role.Topology = codes "topology"
 role_name role.Trace = codes "trace"
 role_name role.Directory = codes "directory"
+role_name role.Journal = codes "journal"
 role_name role.Out = codes "out"
 role_name role.Report = codes "report"
 role_name role.Screen = codes "screen"
@@ -68,6 +72,10 @@ plan_fault_text (TooManyPipes count) = codes "plan: " ++ decimal count ++ codes 
 plan_fault_text (Changes fault) = codes "directory: " ++ changes_fault_text fault
 plan_fault_text (Assign fault) = codes "directory: " ++ assign_fault_text fault
 
+unfoldable pub journal_fault_text : JournalFault → List ℕ
+journal_fault_text (differs.Line n) = codes "line " ++ decimal n ++ codes " differs"
+journal_fault_text (differs.Short n) = codes "ends after " ++ decimal n ++ codes " lines"
+
 -- the line of a status; done has none
 unfoldable pub status_text : Status → List ℕ
 status_text Done = []
@@ -79,4 +87,6 @@ status_text (BadPlan fault) = program_line (plan_fault_text fault)
 status_text (ReadFault role) = program_line (codes "cannot read " ++ role_name role)
 status_text (WriteFault role) = program_line (codes "cannot write " ++ role_name role)
 status_text (TooLarge role) = program_line (role_name role ++ codes " is too large")
+status_text (BadJournal fault) = program_line (codes "journal: " ++ journal_fault_text fault)
+status_text (BadMove number) = program_line (codes "no pipe of move " ++ decimal number)
 status_text (BadCapture fault) = program_line (codes "trace: " ++ ng_fault_text fault)

@@ -6,13 +6,14 @@ use Rattle.mn_base.specs.declared.refusal.Refusal.TheVariants as refusal
 use Rattle.pcapng_in.specs.declared.fault.CaptureFault.{CaptureFault}
 use Rattle.pcapng_in.specs.declared.fault.CaptureFault.TheVariants.{Pcap, Ng}
 use Rattle.gml_reader.specs.declared.faults.GmlFault.{GmlFault}
+use Rattle.journal_check.specs.declared.fault.JournalFault.{JournalFault}
 use Rattle.distill.specs.declared.pipes.TooManyPipes.{TooManyPipes}
 use Rattle.plan.specs.declared.faults.PlanFault.{PlanFault}
 use Rattle.plan.specs.declared.faults.PlanFault.TheVariants as plan
 use Rattle.modelnet.specs.declared.status.Status.{Status}
-use Rattle.modelnet.specs.declared.status.Status.TheVariants.{Done, NoMemory, BadWords, BadTopology, BadTrace, BadPlan, ReadFault, WriteFault, TooLarge, BadCapture}
+use Rattle.modelnet.specs.declared.status.Status.TheVariants.{Done, NoMemory, BadWords, BadTopology, BadTrace, BadPlan, ReadFault, WriteFault, TooLarge, BadJournal, BadMove, BadCapture}
 
--- the number of a status; 9 and 10 are free
+-- the number of a status
 abbrev pub status_number : Status → ℕ
 status_number Done = 0
 status_number NoMemory = 1
@@ -23,6 +24,8 @@ status_number (BadPlan fault) = 5
 status_number (ReadFault role) = 6
 status_number (WriteFault role) = 7
 status_number (TooLarge role) = 8
+status_number (BadJournal fault) = 9
+status_number (BadMove number) = 10
 status_number (BadCapture fault) = 11
 
 -- out of memory, or the fault of a trace by its format
@@ -45,3 +48,8 @@ pipes_refusal (Fault too_many) = BadPlan (plan.TooManyPipes too_many.count)
 abbrev pub plan_refusal : Refusal PlanFault → Status
 plan_refusal refusal.NoMemory = NoMemory
 plan_refusal (Fault fault) = BadPlan fault
+
+-- out of memory, or the fault of a journal
+abbrev pub journal_refusal : Refusal JournalFault → Status
+journal_refusal refusal.NoMemory = NoMemory
+journal_refusal (Fault fault) = BadJournal fault

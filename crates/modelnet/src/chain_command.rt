@@ -6,7 +6,8 @@ ghost use Rattle.modelnet.specs.TheCommands.{chain_command, AreWithinUsual};
 
 use crate::chain_run::chain_texts;
 use crate::read_limits::ReadLimits;
-use crate::roles::{read_input, write_output, write_trace};
+use crate::roles::read_input;
+use crate::run_outputs::write_texts;
 use crate::status::Status;
 use mn_edge::{Host, Role};
 use mn_words::ChainOrder;
@@ -26,8 +27,5 @@ pub fn chain<H: Host>(
 {
     let trace = read_input(alloc, host, Role::Trace, order.trace.as_str(), limits.trace)?;
     let texts = chain_texts(alloc, order, trace)?;
-    let report = texts.report.as_slice();
-    write_trace(host, Role::Out, order.out.as_str(), &texts.out)?;
-    write_output(host, Role::Report, order.report.as_str(), report)?;
-    Ok(())
+    write_texts(order.out.as_str(), order.report.as_str(), &texts, host)
 }

@@ -1,4 +1,4 @@
-ghost use Rattle.std.specs.Prelude.{◌≡◌, ◌≤◌, length, map, All, IfOk, IfErr};
+ghost use Rattle.std.specs.Prelude.{◌≡◌, ◌≤◌, length, map, All, None, IfOk, IfErr};
 ghost use Rattle.mn_base.specs.Refused.{IfFault};
 ghost use Rattle.pcap_io.specs.Capture.{IsTrace, IsRecordTime};
 ghost use Rattle.pcap_io.specs.Writing.{pcap_text};
@@ -9,6 +9,7 @@ ghost use Rattle.mn_words.specs.Order.{IsChainOrder};
 ghost use Rattle.modelnet.specs.Run.{IsChainRun, SaysRun};
 
 use crate::chain_setup::chain_setup;
+use crate::run_outputs::Texts;
 use journal::laws::outputs_fit;
 use journal::{Setup, fates};
 use mn_base::limits::TRACE_BYTES_MAX;
@@ -20,15 +21,6 @@ use report::{out_trace, print_report};
 use settle::{Outcome, gather};
 use std::alloc::Global;
 
-/// What a run writes.
-#[derive(Drop)]
-pub struct Texts {
-    /// The trace of the packets that left.
-    pub out: Trace,
-    /// The report.
-    pub report: Bytes,
-}
-
 /// What a chain makes of the bytes of a trace, in either capture format.
 pub fn chain_texts(
     alloc: Global,
@@ -38,6 +30,7 @@ pub fn chain_texts(
     requires order { IsChainOrder order.now }
     requires few { length text ≤ TRACE_BYTES_MAX }
     ensures run { IfOk result (λ texts. SaysRun order.now text (pcap_text texts.out) texts.report) }
+    ensures nothing_shown { IfOk result (λ texts. texts.screen ≡ None) }
     ensures fault { IfErr result (λ refusal. IfFault refusal (CaptureFirst text)) }
 {
     let trace = read_trace(alloc, text)?;
@@ -50,7 +43,7 @@ pub fn chain_texts(
 }
 
 /// The trace that these bytes say. They are given back as soon as they are read.
-fn read_trace(alloc: Global, text: Bytes) -> Result<Trace, Refusal<CaptureFault>>
+pub fn read_trace(alloc: Global, text: Bytes) -> Result<Trace, Refusal<CaptureFault>>
     requires { length text ≤ TRACE_BYTES_MAX }
     ensures found { IfOk result (λ trace. SaysTrace text trace) }
     ensures fault { IfErr result (λ refusal. IfFault refusal (CaptureFirst text)) }
@@ -64,7 +57,8 @@ fn run_chain(alloc: Global, order: &ChainOrder, trace: Trace) -> Result<Texts, N
     requires order { IsChainOrder order.now }
     requires trace { IsTrace trace }
     requires times { All (λ p. IsRecordTime p.time_ns) trace.packets }
-    ensures { IfOk result (λ texts. IsChainRun order.now trace (pcap_text texts.out) texts.report) }
+    ensures run { IfOk result (λ texts. IsChainRun order.now trace (pcap_text texts.out) texts.report) }
+    ensures nothing_shown { IfOk result (λ texts. texts.screen ≡ None) }
 {
     let setup = chain_setup(alloc, order, &trace)?;
     outputs_fit(&setup);
@@ -72,7 +66,11 @@ fn run_chain(alloc: Global, order: &ChainOrder, trace: Trace) -> Result<Texts, N
     let report = print_report(alloc, &outcome, &[])?;
     let Outcome { leaving, .. } = outcome;
     let out = out_trace(alloc, &setup, leaving)?;
-    Ok(Texts { out, report })
+    Ok(Texts {
+        out,
+        report,
+        screen: None,
+    })
 }
 
 /// What comes of these packets, whose bytes are moved.
@@ -86,7 +84,7 @@ fn chain_outcome(alloc: Global, setup: &Setup, packets: Vec<Packet>) -> Result<O
 }
 
 /// The bytes of each packet, in order.
-fn packet_bytes(alloc: Global, packets: Vec<Packet>) -> Result<Vec<Bytes>, NoMemory>
+pub fn packet_bytes(alloc: Global, packets: Vec<Packet>) -> Result<Vec<Bytes>, NoMemory>
     ensures { IfOk result (λ bytes. bytes.items ≡ map (λ p. p.bytes) packets.items) }
 {
     let bytes = packets

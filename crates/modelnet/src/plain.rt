@@ -7,8 +7,12 @@ ghost use Rattle.mn_words.specs.Words.{texts, IsInRange};
 
 use crate::assign_command::assign;
 use crate::chain_command::chain;
+use crate::check_command::check;
 use crate::distill_command::distill;
+use crate::journal_command::list_visits;
+use crate::migrate_command::migrate;
 use crate::read_limits::{ReadLimits, usual_limits};
+use crate::red_command::drop_early;
 use crate::rehearse_command::rehearse;
 use crate::status::Status;
 use crate::workload_command::summarise;
@@ -72,7 +76,7 @@ fn asks_to_emulate(words: &[&str]) -> bool
 }
 
 /// Does what an order asks for on one thread.
-fn command<H: Host>(
+pub fn command<H: Host>(
     alloc: Global,
     limits: &ReadLimits,
     order: &Order,
@@ -93,11 +97,15 @@ fn command<H: Host>(
         Order::Rehearse(order) => ended(rehearse(alloc, limits, order, host, tally)),
         Order::Emulate(_) => unreachable!(),
         Order::Workload(order) => ended(summarise(alloc, order, host, tally)),
+        Order::Journal(order) => ended(list_visits(alloc, limits, order, host)),
+        Order::Check(order) => ended(check(alloc, limits, order, host)),
+        Order::Red(order) => ended(drop_early(alloc, limits, order, host)),
+        Order::Migrate(order) => ended(migrate(alloc, limits, order, host)),
     }
 }
 
 /// How a command ended that was carried out, or stopped with this status.
-fn ended(outcome: Result<(), Status>) -> Status
+pub fn ended(outcome: Result<(), Status>) -> Status
     ensures { result ≡ status_of outcome }
 {
     match outcome {

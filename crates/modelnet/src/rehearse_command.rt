@@ -4,8 +4,9 @@ ghost use Rattle.mn_words.specs.Order.{IsRunOrder};
 ghost use Rattle.modelnet.specs.Commands.{Answered, TallyAfter, status_of};
 ghost use Rattle.modelnet.specs.TheCommands.{run_command, AreWithinUsual};
 
+use crate::plan_inputs::read_plan;
+use crate::planning::Planning;
 use crate::read_limits::ReadLimits;
-use crate::run_inputs::read_plan;
 use crate::run_outputs::write_texts;
 use crate::running::rehearsed;
 use crate::status::Status;
@@ -29,10 +30,10 @@ pub fn rehearse<H: Host>(
     ensures answered { Answered (run_command limits.now order.now) (H.part host.old) (H.part host.new) (status_of result) }
     ensures tally { TallyAfter (run_command limits.now order.now) (H.part host.old) (H.part host.new) tally.old tally.new (status_of result) }
 {
-    let planned = read_plan(alloc, limits, order, host)?;
+    let planned = read_plan(alloc, limits, &Planning::of_run(order), host)?;
     let texts = match rehearsed(alloc, order, planned, tally) {
         Ok(texts) => texts,
         Err(NoMemory) => return Err(Status::NoMemory),
     };
-    write_texts(order, &texts, host)
+    write_texts(order.out.as_str(), order.report.as_str(), &texts, host)
 }

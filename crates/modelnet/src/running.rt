@@ -1,35 +1,26 @@
 ghost use Rattle.std.specs.Prelude.{◌≡◌, ◌⊎◌, ◌≤◌, ℕ, List, length, map, All, IfOk, OnOk, OnErr};
 ghost use Rattle.std.specs.List.{range_with_len};
 ghost use Rattle.mn_base.specs.declared.limits.TheConstants.{PACKET_BYTES_MAX};
+ghost use Rattle.journal.specs.Journal.{journal_of};
 ghost use Rattle.mn_words.specs.Order.{IsRunOrder};
 ghost use Rattle.parcel.specs.Results.{counts_at, AreResults};
 ghost use Rattle.pcap_io.specs.Writing.{pcap_text};
-ghost use Rattle.modelnet.specs.Running.{IsRunnable, IsRunOf, cluster_reports, CountsRun, HaveShortBytes};
-ghost use Rattle.modelnet.specs.RunSteps.{reports_of};
+ghost use Rattle.settle.specs.IsOutcome.{IsOutcome};
+ghost use Rattle.modelnet.specs.Running.{IsRunnable, IsRunOf, cluster_reports, CountsRun, HaveShortBytes, HasShortBytes};
+ghost use Rattle.modelnet.specs.Writing.{shown};
 
+use crate::run_outputs::Texts;
 use core_loop::{Tally, stock};
 use journal::Setup;
 use journal::laws::outputs_fit;
 use mn_base::{Bytes, NoMemory, Unbound};
 use mn_words::RunOrder;
 use parcel::CoreResult;
-use pcap_io::Trace;
 use plan::Planned;
 use report::{out_trace, print_cluster, print_report};
 use settle::{Outcome, merge};
 use std::alloc::Global;
 use world::{World, order_list};
-
-/// What a run writes.
-#[derive(Drop)]
-pub struct RunTexts {
-    /// The trace of the packets that left.
-    pub out: Trace,
-    /// The report.
-    pub report: Bytes,
-    /// The cluster report, where it is asked for.
-    pub cluster: Option<Bytes>,
-}
 
 /// Emulates a plan, all cores on one thread: by the order's drawn turns, and then by round robin.
 pub fn rehearsed(
@@ -37,11 +28,11 @@ pub fn rehearsed(
     order: &RunOrder,
     planned: Planned,
     tally: &mut Tally,
-) -> Result<RunTexts, NoMemory>
+) -> Result<Texts, NoMemory>
     requires order { IsRunOrder order.now }
     requires planned { IsRunnable planned }
     ensures run { IfOk result (λ texts. IsRunOf planned (pcap_text texts.out) texts.report) }
-    ensures cluster { IfOk result (λ texts. reports_of texts.cluster ≡ cluster_reports order.now.cluster_report planned.setup) }
+    ensures cluster { IfOk result (λ texts. shown texts.screen ≡ cluster_reports order.now.cluster_report planned.setup) }
     ensures tally { OnOk result (CountsRun planned.setup tally.old tally.new) }
     ensures may_count { OnErr result ((tally.new ≡ tally.old) ⊎ CountsRun planned.setup tally.old tally.new) }
 {
@@ -85,24 +76,41 @@ pub fn run_texts(
     setup: &Setup,
     unbounds: &[(u32, Unbound)],
     results: Vec<CoreResult>,
-) -> Result<RunTexts, NoMemory>
+) -> Result<Texts, NoMemory>
     requires { HaveShortBytes setup.now results.items }
     ensures run { IfOk result (λ texts. (bytes : List (List ℕ)) → AreResults setup.now bytes results.items
         → IsRunOf (record { setup = setup.now; bytes = bytes; unbounds = unbounds.now }) (pcap_text texts.out) texts.report) }
-    ensures cluster { IfOk result (λ texts. reports_of texts.cluster ≡ cluster_reports cluster_report setup.now) }
+    ensures cluster { IfOk result (λ texts. shown texts.screen ≡ cluster_reports cluster_report setup.now) }
+{
+    let outcome = merge(alloc, setup, results)?;
+    let screen = cluster_report_of(alloc, cluster_report, setup, &outcome)?;
+    let texts = outcome_texts(alloc, setup, unbounds, outcome, screen)?;
+    Ok(texts)
+}
+
+/// What is written of an outcome, and shown on the screen.
+pub fn outcome_texts(
+    alloc: Global,
+    setup: &Setup,
+    unbounds: &[(u32, Unbound)],
+    outcome: Outcome,
+    screen: Option<Bytes>,
+) -> Result<Texts, NoMemory>
+    requires { HasShortBytes setup.now outcome }
+    ensures run { IfOk result (λ texts. (bytes : List (List ℕ)) → IsOutcome setup.now (journal_of setup.now) bytes outcome
+        → IsRunOf (record { setup = setup.now; bytes = bytes; unbounds = unbounds.now }) (pcap_text texts.out) texts.report) }
+    ensures screen { IfOk result (λ texts. texts.screen ≡ screen) }
 {
     // A read of the setup, so that the proof knows what its type keeps.
     let _parts = setup.parts();
     outputs_fit(setup);
-    let outcome = merge(alloc, setup, results)?;
-    let cluster = cluster_report_of(alloc, cluster_report, setup, &outcome)?;
     let report = print_report(alloc, &outcome, unbounds)?;
     let Outcome { leaving, .. } = outcome;
     let out = out_trace(alloc, setup, leaving)?;
-    Ok(RunTexts {
+    Ok(Texts {
         out,
         report,
-        cluster,
+        screen,
     })
 }
 
@@ -114,7 +122,7 @@ fn cluster_report_of(
     outcome: &Outcome,
 ) -> Result<Option<Bytes>, NoMemory>
     requires { outcome.now.cores ≡ map (counts_at setup.now) (range_with_len 0 setup.now.cores) }
-    ensures { IfOk result (λ text. reports_of text ≡ cluster_reports asked setup.now) }
+    ensures { IfOk result (λ text. shown text ≡ cluster_reports asked setup.now) }
 {
     if !asked {
         return Ok(None);

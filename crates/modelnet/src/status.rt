@@ -3,6 +3,7 @@ ghost use Rattle.modelnet.specs.Statuses.{status_number};
 
 use distill::TooManyPipes;
 use gml_reader::GmlFault;
+use journal_check::JournalFault;
 use mn_base::Refusal;
 use mn_edge::Role;
 use mn_words::WordsFault;
@@ -31,6 +32,10 @@ pub enum Status {
     WriteFault(Role),
     /// More bytes of this role came than its limit.
     TooLarge(Role),
+    /// The journal isn't that of the plan; this is where it first differs.
+    BadJournal(JournalFault),
+    /// The move of this number, from 0, is the first that names no pipe of the plan.
+    BadMove(u32),
     /// The trace begins as a pcapng file, and this is its first fault.
     BadCapture(NgFault),
 }
@@ -94,6 +99,20 @@ impl From<Refusal<PlanFault>> for Status {
     }
 }
 
+impl From<Refusal<JournalFault>> for Status {
+    ghost use Rattle.std.specs.Prelude.{◌≡◌};
+    ghost use Rattle.modelnet.specs.Statuses.{journal_refusal};
+
+    ghost from_gives = { λ refusal status. status ≡ journal_refusal refusal };
+
+    fn from(refusal: Refusal<JournalFault>) -> Status {
+        match refusal {
+            Refusal::NoMemory => Status::NoMemory,
+            Refusal::Fault(fault) => Status::BadJournal(fault),
+        }
+    }
+}
+
 impl Status {
     /// The number with which the program ends.
     pub fn number(&self) -> u8
@@ -109,6 +128,8 @@ impl Status {
             Status::ReadFault(_) => 6,
             Status::WriteFault(_) => 7,
             Status::TooLarge(_) => 8,
+            Status::BadJournal(_) => 9,
+            Status::BadMove(_) => 10,
             Status::BadCapture(_) => 11,
         }
     }

@@ -1,8 +1,9 @@
 ghost use Rattle.std.specs.Prelude.{◌≡◌, string_bytes, IfOk};
-ghost use Rattle.modelnet.specs.StatusTexts.{assign_fault_text, changes_fault_text, opt_name, plan_fault_text, role_name, words_fault_text, status_text};
+ghost use Rattle.modelnet.specs.StatusTexts.{assign_fault_text, changes_fault_text, journal_fault_text, opt_name, plan_fault_text, role_name, words_fault_text, status_text};
 
 use crate::status::Status;
 use changes::ChangesFault;
+use journal_check::JournalFault;
 use mn_base::{Bytes, NoMemory};
 use mn_edge::Role;
 use mn_words::{Opt, WordsFault};
@@ -33,6 +34,11 @@ fn line_of(alloc: Global, status: Status) -> Result<String, AllocError>
         }
         Status::BadTopology(fault) => format!(in alloc; "modelnet: topology: {fault}\n"),
         Status::BadTrace(fault) => format!(in alloc; "modelnet: trace: {fault}\n"),
+        Status::BadJournal(fault) => {
+            let text = journal_fault_text(alloc, fault)?;
+            format!(in alloc; "modelnet: journal: {text}\n")
+        }
+        Status::BadMove(number) => format!(in alloc; "modelnet: no pipe of move {number}\n"),
         Status::BadCapture(fault) => format!(in alloc; "modelnet: trace: {fault}\n"),
         Status::BadPlan(fault) => {
             let text = plan_fault_text(alloc, fault)?;
@@ -110,6 +116,16 @@ fn assign_fault_text(alloc: Global, fault: AssignFault) -> Result<String, AllocE
     }
 }
 
+#[tactic(auto, unfolding(crate::specs::StatusTexts::journal_fault_text))]
+fn journal_fault_text(alloc: Global, fault: JournalFault) -> Result<String, AllocError>
+    ensures { IfOk result (λ text. string_bytes text ≡ journal_fault_text fault) }
+{
+    match fault {
+        JournalFault::Line(n) => format!(in alloc; "line {n} differs"),
+        JournalFault::Short(n) => format!(in alloc; "ends after {n} lines"),
+    }
+}
+
 fn opt_name(opt: Opt) -> &'static str
     ensures { result.now ≡ opt_name opt }
 {
@@ -125,6 +141,7 @@ fn opt_name(opt: Opt) -> &'static str
         Opt::Packets => "--packets",
         Opt::Pipe => "PIPE",
         Opt::Loss => "--loss",
+        Opt::Move => "MOVE",
     }
 }
 
@@ -135,6 +152,7 @@ fn role_name(role: Role) -> &'static str
         Role::Topology => "topology",
         Role::Trace => "trace",
         Role::Directory => "directory",
+        Role::Journal => "journal",
         Role::Out => "out",
         Role::Report => "report",
         Role::Screen => "screen",

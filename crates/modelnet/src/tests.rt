@@ -21,6 +21,13 @@
 // | TooLarge(Directory) | | | | inputs_above_their_limits_are_too_large |
 // | BadCapture | pcapng::a_cut_block_is_refused_and_nothing_is_written | | | each_input_is_refused_by_its_first_fault |
 //
+// `journal`, `check` (in `journals`) and `migrate` (in `moving`) read what `rehearse` reads, by the same code; `refusing` has their
+// faults of a topology, a trace and a plan, too. Done comes in the_visits_of_two_packets_are_the_same_on_any_number_of_cores,
+// a_journal_is_right_or_differs_at_a_line and a_pipe_that_moves_changes_no_output; BadJournal and BadMove come in the last two;
+// TooLarge(Journal) in a_journal_above_its_limit_is_too_large; the faults of roles in each_failed_call_is_named_by_its_role.
+//
+// `red` reads and writes what `chain` does, by the same code; Done comes in dropping_early::the_third_of_three_packets_is_dropped_early.
+//
 // `workload` reads no role; in `generating`: Done comes in summaries_are_the_same_on_any_number_of_cores, WriteFault(Screen) in
 // a_failed_write_leaves_a_front_of_the_summary.
 ghost use Rattle.std.specs.Prelude.{◌≡◌, ◌≤◌, false};
@@ -30,7 +37,11 @@ ghost use Rattle.mn_edge.specs.MemoryHostView.{stream_of};
 mod assigning;
 mod bursts;
 mod distilling;
+mod dropping_early;
+mod emulating;
 mod generating;
+mod journals;
+mod moving;
 mod pcapng;
 mod refusing;
 mod rehearsing;
@@ -39,7 +50,9 @@ use crate::plain::{plain, plain_within};
 use crate::read_limits::ReadLimits;
 use crate::status::Status;
 use core_loop::Tally;
-use mn_base::limits::{DIRECTORY_BYTES_MAX, TOPOLOGY_BYTES_MAX, TRACE_BYTES_MAX};
+use mn_base::limits::{
+    DIRECTORY_BYTES_MAX, JOURNAL_BYTES_MAX, TOPOLOGY_BYTES_MAX, TRACE_BYTES_MAX,
+};
 use mn_edge::{Fail, MemoryHost, Op, RealHost, Role};
 use mn_words::{Opt, WordsFault};
 use pcap_io::PcapFault;
@@ -441,6 +454,7 @@ fn status_within(rt: &(impl Abort + AllocGlobal), limit: usize) -> Status
         topology: TOPOLOGY_BYTES_MAX,
         trace: limit,
         directory: DIRECTORY_BYTES_MAX,
+        journal: JOURNAL_BYTES_MAX,
     };
     plain_within(rt.alloc(), &limits, &words, &mut host, &mut Tally::new())
 }

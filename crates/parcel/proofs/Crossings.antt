@@ -42,22 +42,22 @@ latency-among tick first (c ∷ changes) = go (nat_le c.0 tick) (λ p. latency-a
         put (inr a) = inr (inr a)
 
 -- a pipe that a route leaves for a pipe of another core
-crossed-at : (S : SetupView) (route : List ℕ) (hop : ℕ) → hop + 1 < length route
-    → owner_of S (slice_index route hop) ≢ owner_of S (slice_index route (suc hop))
-    → Among (slice_index route hop) (crossed_pipes S route)
-crossed-at S [] hop within other = absurd (omega arith)
-crossed-at S (pipe ∷ []) hop within other = absurd (omega arith)
-crossed-at S (pipe ∷ next ∷ route) zero within other = go (owner_of S pipe == owner_of S next) refl
+crossed-at : (owners : List ℕ) (route : List ℕ) (hop : ℕ) → hop + 1 < length route
+    → slice_index owners (slice_index route hop) ≢ slice_index owners (slice_index route (suc hop))
+    → Among (slice_index route hop) (crossed_pipes owners route)
+crossed-at owners [] hop within other = absurd (omega arith)
+crossed-at owners (pipe ∷ []) hop within other = absurd (omega arith)
+crossed-at owners (pipe ∷ next ∷ route) zero within other = go (slice_index owners pipe == slice_index owners next) refl
   where
-    go : (b : Bool) → (owner_of S pipe == owner_of S next) ≡ b
-        → Among pipe (cond b (crossed_pipes S (next ∷ route)) (pipe ∷ crossed_pipes S (next ∷ route)))
+    go : (b : Bool) → (slice_index owners pipe == slice_index owners next) ≡ b
+        → Among pipe (cond b (crossed_pipes owners (next ∷ route)) (pipe ∷ crossed_pipes owners (next ∷ route)))
     go true t = absurd (other (eqb-true _ _ t))
     go false t = inl refl
-crossed-at S (pipe ∷ next ∷ route) (suc hop) within other =
-    go (owner_of S pipe == owner_of S next) (crossed-at S (next ∷ route) hop (omega arith) other)
+crossed-at owners (pipe ∷ next ∷ route) (suc hop) within other =
+    go (slice_index owners pipe == slice_index owners next) (crossed-at owners (next ∷ route) hop (omega arith) other)
   where
-    go : (b : Bool) → Among (slice_index (next ∷ route) hop) (crossed_pipes S (next ∷ route))
-        → Among (slice_index (next ∷ route) hop) (cond b (crossed_pipes S (next ∷ route)) (pipe ∷ crossed_pipes S (next ∷ route)))
+    go : (b : Bool) → Among (slice_index (next ∷ route) hop) (crossed_pipes owners (next ∷ route))
+        → Among (slice_index (next ∷ route) hop) (cond b (crossed_pipes owners (next ∷ route)) (pipe ∷ crossed_pipes owners (next ∷ route)))
     go true a = a
     go false a = inr a
 
@@ -77,18 +77,18 @@ module _ (S : SetupView) (is : IsSetup S) where
       let step : u.hop + 1 ≡ suc u.hop = omega arith in
       let next : v.pipe ≡ slice_index (route_of S v.packet) (suc u.hop) =
       visit-pipe S (journal_of S) v grows.made a ∙ ap (λ (h : ℕ). slice_index (route_of S v.packet) h) (hop ∙ step) in
-      let crossed : Among u.pipe (crossed_pipes S (route_of S v.packet)) =
-      subst (λ (q : ℕ). Among q (crossed_pipes S (route_of S v.packet))) (sym here)
-      (crossed-at S (route_of S v.packet) u.hop (omega (arith, within, hop))
+      let crossed : Among u.pipe (crossed_pipes S.owners (route_of S v.packet)) =
+      subst (λ (q : ℕ). Among q (crossed_pipes S.owners (route_of S v.packet))) (sym here)
+      (crossed-at S.owners (route_of S v.packet) u.hop (omega (arith, within, hop))
       (λ same. other (ap (owner_of S) here ∙ same ∙ sym (ap (owner_of S) next)))) in
       let of_pipe : Among (params_of S u.pipe u.tick).latency_ticks (latencies_of S u.pipe) =
       latency-among u.tick (first_params S u.pipe) (changes_of S u.pipe) in
       let of_route : Among (params_of S u.pipe u.tick).latency_ticks
-      (flat_map (latencies_of S) (crossed_pipes S (route_of S v.packet))) =
-      Among-flat_map (latencies_of S) u.pipe (params_of S u.pipe u.tick).latency_ticks (crossed_pipes S (route_of S v.packet)) crossed of_pipe in
-      Among-flat_map (λ (q : PacketPlan). flat_map (latencies_of S) (crossed_pipes S (route_of S q.number))) p.0
+      (flat_map (latencies_of S) (crossed_pipes S.owners (route_of S v.packet))) =
+      Among-flat_map (latencies_of S) u.pipe (params_of S u.pipe u.tick).latency_ticks (crossed_pipes S.owners (route_of S v.packet)) crossed of_pipe in
+      Among-flat_map (λ (q : PacketPlan). flat_map (latencies_of S) (crossed_pipes S.owners (route_of S q.number))) p.0
       (params_of S u.pipe u.tick).latency_ticks S.packets p.1
-      (subst (λ (n : ℕ). Among (params_of S u.pipe u.tick).latency_ticks (flat_map (latencies_of S) (crossed_pipes S (route_of S n))))
+      (subst (λ (n : ℕ). Among (params_of S u.pipe u.tick).latency_ticks (flat_map (latencies_of S) (crossed_pipes S.owners (route_of S n))))
       (sym p.2) of_route)
 
   -- from a core's pipe to another's a packet takes the lookahead at least

@@ -10,7 +10,7 @@ use Rattle.journal.specs.declared.setup.PacketPlan.{PacketPlan}
 use Rattle.journal.specs.declared.setup.PipeChange.{PipeChange}
 use Rattle.journal.specs.SetupView.{SetupView, route_of, first_params, no_params, changes_of}
 use Rattle.journal.specs.IsSetup.{IsSetup}
-use Rattle.parcel.specs.Owners.{owner_of}
+use Rattle.parcel.specs.Owners.{owned_by}
 use Rattle.parcel.specs.Lookahead.{crossed_pipes, latencies_of, crossing_latencies, lookahead_of}
 use Rattle.parcel.specs.PipeSets.{Has, IsCrossed, crossed_by, HasRoutesBefore, AddsRoute, IsLeastOf, IsFirstLatency, IsChangedLatency}
 use Rattle.mn_base.proofs.Members.{Among-append-left, Among-append-right, Among-append, Among-map, Among-from-map, Among-filter, Among-from-filter, Among-index, index_of, All-Among}
@@ -20,87 +20,112 @@ use Rattle.parcel.proofs.Lookaheads.{fold-min-bound, fold-min-among, fold-min-re
 -- ---- one route, hop by hop
 
 -- with one more pipe at its end a route leaves the pipe before it, too, if the owners differ
-crossed-more : (S : SetupView) (route : List ℕ) (h : ℕ) → suc h < length route → (b : Bool)
-    → (owner_of S (slice_index route h) == owner_of S (slice_index route (suc h))) ≡ b
-    → crossed_pipes S (take (suc (suc h)) route) ≡ crossed_pipes S (take (suc h) route) ++ cond b [] (slice_index route h ∷ [])
-crossed-more S [] h within b is = absurd (omega arith)
-crossed-more S (x ∷ []) h within b is = absurd (omega arith)
-crossed-more S (x ∷ y ∷ rest) zero within b is = ap (λ (t : Bool). cond t [] (x ∷ [])) is
-crossed-more S (x ∷ y ∷ rest) (suc h) within b is =
-    go (owner_of S x == owner_of S y) (crossed-more S (y ∷ rest) h (omega arith) b is)
+crossed-more : (owners : List ℕ) (route : List ℕ) (h : ℕ) → suc h < length route → (b : Bool)
+    → (slice_index owners (slice_index route h) == slice_index owners (slice_index route (suc h))) ≡ b
+    → crossed_pipes owners (take (suc (suc h)) route) ≡ crossed_pipes owners (take (suc h) route) ++ cond b [] (slice_index route h ∷ [])
+crossed-more owners [] h within b is = absurd (omega arith)
+crossed-more owners (x ∷ []) h within b is = absurd (omega arith)
+crossed-more owners (x ∷ y ∷ rest) zero within b is = ap (λ (t : Bool). cond t [] (x ∷ [])) is
+crossed-more owners (x ∷ y ∷ rest) (suc h) within b is =
+    go (slice_index owners x == slice_index owners y) (crossed-more owners (y ∷ rest) h (omega arith) b is)
   where
     go : (t : Bool)
-        → crossed_pipes S (take (suc (suc h)) (y ∷ rest))
-        ≡ crossed_pipes S (take (suc h) (y ∷ rest)) ++ cond b [] (slice_index (y ∷ rest) h ∷ [])
-        → cond t (crossed_pipes S (take (suc (suc h)) (y ∷ rest))) (x ∷ crossed_pipes S (take (suc (suc h)) (y ∷ rest)))
-        ≡ cond t (crossed_pipes S (take (suc h) (y ∷ rest))) (x ∷ crossed_pipes S (take (suc h) (y ∷ rest)))
+        → crossed_pipes owners (take (suc (suc h)) (y ∷ rest))
+        ≡ crossed_pipes owners (take (suc h) (y ∷ rest)) ++ cond b [] (slice_index (y ∷ rest) h ∷ [])
+        → cond t (crossed_pipes owners (take (suc (suc h)) (y ∷ rest))) (x ∷ crossed_pipes owners (take (suc (suc h)) (y ∷ rest)))
+        ≡ cond t (crossed_pipes owners (take (suc h) (y ∷ rest))) (x ∷ crossed_pipes owners (take (suc h) (y ∷ rest)))
         ++ cond b [] (slice_index (y ∷ rest) h ∷ [])
     go true e = e
     go false e = ap (λ (l : List ℕ). x ∷ l) e
 
-crossed-grows : (S : SetupView) (route : List ℕ) (hop : ℕ) → 1 ≤ hop → hop < length route → (b : Bool)
-    → (owner_of S (slice_index route (hop - 1)) == owner_of S (slice_index route hop)) ≡ b
-    → crossed_pipes S (take (hop + 1) route) ≡ crossed_pipes S (take hop route) ++ cond b [] (slice_index route (hop - 1) ∷ [])
-crossed-grows S route zero low within b is = absurd (omega arith)
-crossed-grows S route (suc h) low within b is =
+crossed-grows : (owners : List ℕ) (route : List ℕ) (hop : ℕ) → 1 ≤ hop → hop < length route → (b : Bool)
+    → (slice_index owners (slice_index route (hop - 1)) == slice_index owners (slice_index route hop)) ≡ b
+    → crossed_pipes owners (take (hop + 1) route) ≡ crossed_pipes owners (take hop route) ++ cond b [] (slice_index route (hop - 1) ∷ [])
+crossed-grows owners route zero low within b is = absurd (omega arith)
+crossed-grows owners route (suc h) low within b is =
     let one : suc h - 1 ≡ h = omega arith in
     let two : suc h + 1 ≡ suc (suc h) = omega arith in
-    rw (one, two) (crossed-more S route h within b (rw one at is))
+    rw (one, two) (crossed-more owners route h within b (rw one at is))
 
 -- what a pipe's owner is read as
-pub owner_is : (S : SetupView) (owners : List ℕ) → owners ≡ S.owners → (pipe : ℕ) → pipe < length S.owners → (x : ℕ)
-    → x ≡ slice_index_or owners pipe x → x ≡ owner_of S pipe
-owner_is S owners same pipe within x read =
-    let low : pipe < length owners = omega (arith, ap length same, within) in
-    read ∙ get_or_default owners pipe x 0 low ∙ ap (λ (l : List ℕ). slice_index l pipe) same
+pub owner_is : (owners : List ℕ) (pipe : ℕ) → pipe < length owners → (x : ℕ) → x ≡ slice_index_or owners pipe x → x ≡ slice_index owners pipe
+owner_is owners pipe within x read = read ∙ get_or_default owners pipe x 0 within
 
 -- the set has the pipes that the first `hop` ones of a route leave, beside those that it had
-abbrev pub HasHops : SetupView → List ℕ → List Bool → ℕ → List Bool → Type 0
-HasHops S route old hop marks = (q : ℕ) → Has marks q ↔ (Has old q ⊎ Among q (crossed_pipes S (take hop route)))
+abbrev pub HasHops : List ℕ → List ℕ → List Bool → ℕ → List Bool → Type 0
+HasHops owners route old hop marks = (q : ℕ) → Has marks q ↔ (Has old q ⊎ Among q (crossed_pipes owners (take hop route)))
 
-pub hop_left : (S : SetupView) (route : List ℕ) (old before after : List Bool) (hop : ℕ) → 1 ≤ hop → hop < length route
-    → HasHops S route old hop before
-    → owner_of S (slice_index route (hop - 1)) ≢ owner_of S (slice_index route hop)
+pub hop_left : (owners : List ℕ) (route : List ℕ) (old before after : List Bool) (hop : ℕ) → 1 ≤ hop → hop < length route
+    → HasHops owners route old hop before
+    → slice_index owners (slice_index route (hop - 1)) ≢ slice_index owners (slice_index route hop)
     → ((q : ℕ) → Has after q ↔ (Has before q ⊎ (slice_index route (hop - 1) ≡ q)))
-    → HasHops S route old (hop + 1) after
-hop_left S route old before after hop low within has differ adds = λ q. (forth q, back q)
+    → HasHops owners route old (hop + 1) after
+hop_left owners route old before after hop low within has differ adds = λ q. (forth q, back q)
   where
-    is : crossed_pipes S (take (hop + 1) route) ≡ crossed_pipes S (take hop route) ++ slice_index route (hop - 1) ∷ []
-    is = crossed-grows S route hop low within false (false_from_ne_true _ (λ e. differ (eqb-true _ _ e)))
+    is : crossed_pipes owners (take (hop + 1) route) ≡ crossed_pipes owners (take hop route) ++ slice_index route (hop - 1) ∷ []
+    is = crossed-grows owners route hop low within false (false_from_ne_true _ (λ e. differ (eqb-true _ _ e)))
 
-    more : (q : ℕ) → Among q (crossed_pipes S (take hop route)) ⊎ (slice_index route (hop - 1) ≡ q)
-        → Among q (crossed_pipes S (take (hop + 1) route))
-    more q (inl a) = subst (Among q) (sym is) (Among-append-left q (crossed_pipes S (take hop route)) (slice_index route (hop - 1) ∷ []) a)
+    more : (q : ℕ) → Among q (crossed_pipes owners (take hop route)) ⊎ (slice_index route (hop - 1) ≡ q)
+        → Among q (crossed_pipes owners (take (hop + 1) route))
+    more q (inl a) = subst (Among q) (sym is) (Among-append-left q (crossed_pipes owners (take hop route)) (slice_index route (hop - 1) ∷ []) a)
     more q (inr e) =
         subst (Among q) (sym is)
-        (Among-append-right q (crossed_pipes S (take hop route)) (slice_index route (hop - 1) ∷ []) (inl e))
+        (Among-append-right q (crossed_pipes owners (take hop route)) (slice_index route (hop - 1) ∷ []) (inl e))
 
-    forth : (q : ℕ) → Has after q → Has old q ⊎ Among q (crossed_pipes S (take (hop + 1) route))
+    forth : (q : ℕ) → Has after q → Has old q ⊎ Among q (crossed_pipes owners (take (hop + 1) route))
     forth q there = go ((adds q).0 there)
       where
-        go : Has before q ⊎ (slice_index route (hop - 1) ≡ q) → Has old q ⊎ Among q (crossed_pipes S (take (hop + 1) route))
+        go : Has before q ⊎ (slice_index route (hop - 1) ≡ q) → Has old q ⊎ Among q (crossed_pipes owners (take (hop + 1) route))
         go (inl b) = ⊎_elim (λ o. inl o) (λ a. inr (more q (inl a))) ((has q).0 b)
         go (inr e) = inr (more q (inr e))
 
-    back : (q : ℕ) → Has old q ⊎ Among q (crossed_pipes S (take (hop + 1) route)) → Has after q
+    back : (q : ℕ) → Has old q ⊎ Among q (crossed_pipes owners (take (hop + 1) route)) → Has after q
     back q (inl o) = (adds q).1 (inl ((has q).1 (inl o)))
     back q (inr a) =
-        go (Among-append q (crossed_pipes S (take hop route)) (slice_index route (hop - 1) ∷ []) (subst (Among q) is a))
+        go (Among-append q (crossed_pipes owners (take hop route)) (slice_index route (hop - 1) ∷ []) (subst (Among q) is a))
       where
-        go : Among q (crossed_pipes S (take hop route)) ⊎ Among q (slice_index route (hop - 1) ∷ []) → Has after q
+        go : Among q (crossed_pipes owners (take hop route)) ⊎ Among q (slice_index route (hop - 1) ∷ []) → Has after q
         go (inl b) = (adds q).1 (inl ((has q).1 (inr b)))
         go (inr (inl e)) = (adds q).1 (inr e)
         go (inr (inr none)) = absurd none
 
-pub hop_stays : (S : SetupView) (route : List ℕ) (old marks : List Bool) (hop : ℕ) → 1 ≤ hop → hop < length route
-    → HasHops S route old hop marks
-    → owner_of S (slice_index route (hop - 1)) ≡ owner_of S (slice_index route hop)
-    → HasHops S route old (hop + 1) marks
-hop_stays S route old marks hop low within has same =
+pub hop_stays : (owners : List ℕ) (route : List ℕ) (old marks : List Bool) (hop : ℕ) → 1 ≤ hop → hop < length route
+    → HasHops owners route old hop marks
+    → slice_index owners (slice_index route (hop - 1)) ≡ slice_index owners (slice_index route hop)
+    → HasHops owners route old (hop + 1) marks
+hop_stays owners route old marks hop low within has same =
     subst (λ (l : List ℕ). (q : ℕ) → Has marks q ↔ (Has old q ⊎ Among q l)) (sym is) has
   where
-    is : crossed_pipes S (take (hop + 1) route) ≡ crossed_pipes S (take hop route)
-    is = crossed-grows S route hop low within true (eq-eqb _ _ same) ∙ append-nil (crossed_pipes S (take hop route))
+    is : crossed_pipes owners (take (hop + 1) route) ≡ crossed_pipes owners (take hop route)
+    is = crossed-grows owners route hop low within true (eq-eqb _ _ same) ∙ append-nil (crossed_pipes owners (take hop route))
+
+-- ---- other owners
+
+-- a setup with other owners of its pipes is one, where each pipe has one of its cores
+pub owned-setup : (S : SetupView) (owners : List ℕ) → IsSetup S → length owners ≡ length S.pipes → All (λ core. core < S.cores) owners
+    → IsSetup (owned_by S owners)
+owned-setup S owners is one_a_pipe cores = record {
+  tick = is.tick;
+  link_type = is.link_type;
+  cores_least = is.cores_least;
+  cores_most = is.cores_most;
+  pipes_most = is.pipes_most;
+  one_owner = one_a_pipe;
+  owners = cores;
+  routes_most = is.routes_most;
+  routes_named = is.routes_named;
+  routes_distinct = is.routes_distinct;
+  numbers_rise = is.numbers_rise;
+  numbers_most = is.numbers_most;
+  lens_most = is.lens_most;
+  packet_routes = is.packet_routes;
+  packet_cores = is.packet_cores;
+  changes_rise = is.changes_rise;
+  changes_named = is.changes_named;
+  entries_fit = is.entries_fit;
+  times_fit = is.times_fit;
+  delays_fit = is.delays_fit;
+}
 
 -- ---- all routes that packets take
 
@@ -112,17 +137,17 @@ route_is items xs routes same i within x read =
     ap items read ∙ sym (get_or-map items xs i x [] low) ∙ ap (λ (rs : List (List ℕ)). slice_index_or rs i []) same
 
 pub adds_route : (S : SetupView) (old new : List Bool) (route walked : ℕ) (list : List ℕ) → list ≡ slice_index_or S.routes route []
-    → ((q : ℕ) → Has new q ↔ (Has old q ⊎ Among q (crossed_pipes S list)))
+    → ((q : ℕ) → Has new q ↔ (Has old q ⊎ Among q (crossed_pipes S.owners list)))
     → HasRoutesBefore S old walked → route ≡ walked → AddsRoute S old new route (walked + 1)
 adds_route S old new route walked list is adds before same = record {
   added = added;
   kept = λ q o. (adds q).1 (inl o);
-  sound = λ q n. subst (λ (l : List ℕ). Has old q ⊎ Among q (crossed_pipes S l)) is ((adds q).0 n);
+  sound = λ q n. subst (λ (l : List ℕ). Has old q ⊎ Among q (crossed_pipes S.owners l)) is ((adds q).0 n);
   before = λ r q low a. go r q a (cases_lt r walked) low;
 }
   where
     added : (q : ℕ) → Among q (crossed_by S route) → Has new q
-    added q a = (adds q).1 (inr (subst (λ (l : List ℕ). Among q (crossed_pipes S l)) (sym is) a))
+    added q a = (adds q).1 (inr (subst (λ (l : List ℕ). Among q (crossed_pipes S.owners l)) (sym is) a))
 
     go : (r q : ℕ) → Among q (crossed_by S r) → (r < walked) ⊎ (walked ≤ r) → r < walked + 1 → Has new q
     go r q a (inl l) low = (adds q).1 (inl (before r q l a))
@@ -135,7 +160,7 @@ pub record IsSoFar (S : SetupView) (plans : List PacketPlan) (index : ℕ) (mark
   pub sound : (q : ℕ) → Has marks q → IsCrossed S q
   pub complete :
       (k q : ℕ) (p : PacketPlan) → k < index
-      → Among q (crossed_pipes S (route_of S (slice_index_or plans k p).number)) → Has marks q
+      → Among q (crossed_pipes S.owners (route_of S (slice_index_or plans k p).number)) → Has marks q
   pub before : HasRoutesBefore S marks walked
 
 pub packet_added : (S : SetupView) → IsSetup S → (plans : List PacketPlan) → plans ≡ S.packets → (index : ℕ) → index < length plans
@@ -157,18 +182,18 @@ packet_added S is plans same index within plan read old new walked end so_far ad
 
     sound : (q : ℕ) → Has old q ⊎ Among q (crossed_by S plan.route) → IsCrossed S q
     sound q (inl o) = so_far.sound q o
-    sound q (inr a) = (plan, member, subst (λ (l : List ℕ). Among q (crossed_pipes S l)) way a)
+    sound q (inr a) = (plan, member, subst (λ (l : List ℕ). Among q (crossed_pipes S.owners l)) way a)
 
-    complete : (k q : ℕ) (p : PacketPlan) → Among q (crossed_pipes S (route_of S (slice_index_or plans k p).number))
+    complete : (k q : ℕ) (p : PacketPlan) → Among q (crossed_pipes S.owners (route_of S (slice_index_or plans k p).number))
         → (k < index) ⊎ (index ≤ k) → k < index + 1 → Has new q
     complete k q p a (inl l) low = adds.kept q (so_far.complete k q p l a)
     complete k q p a (inr h) low =
         let e : k ≡ index = omega arith in
         let here : slice_index_or plans k p ≡ plan =
         ap (λ (n : ℕ). slice_index_or plans n p) e ∙ get_or_default plans index p plan within ∙ sym read in
-        let b : Among q (crossed_pipes S (route_of S plan.number)) =
-        subst (λ (z : PacketPlan). Among q (crossed_pipes S (route_of S z.number))) here a in
-        adds.added q (subst (λ (l : List ℕ). Among q (crossed_pipes S l)) (sym way) b)
+        let b : Among q (crossed_pipes S.owners (route_of S plan.number)) =
+        subst (λ (z : PacketPlan). Among q (crossed_pipes S.owners (route_of S z.number))) here a in
+        adds.added q (subst (λ (l : List ℕ). Among q (crossed_pipes S.owners l)) (sym way) b)
 
 pub all_crossed : (S : SetupView) (plans : List PacketPlan) → plans ≡ S.packets → (index : ℕ) → length plans ≤ index
     → (marks : List Bool) (walked : ℕ) → IsSoFar S plans index marks walked → (q : ℕ) → Has marks q ↔ IsCrossed S q
@@ -178,7 +203,7 @@ all_crossed S plans same index done marks walked so_far q = (so_far.sound q, bac
     back c =
         let there = index_of c.0 plans (subst (λ (l : List PacketPlan). Among c.0 l) (sym same) c.1) in
         so_far.complete there.index q c.0 (omega (arith, there.within))
-        (subst (λ (z : PacketPlan). Among q (crossed_pipes S (route_of S z.number))) (sym (there.here c.0)) c.2)
+        (subst (λ (z : PacketPlan). Among q (crossed_pipes S.owners (route_of S z.number))) (sym (there.here c.0)) c.2)
 
 -- ---- the least of many
 
@@ -266,13 +291,13 @@ module _ (S : SetupView) (marks : List Bool) (changes : List PipeChange) (same :
 -- ---- and that is the lookahead
 
 -- what a route leaves is on it
-crossed-on : (S : SetupView) (route : List ℕ) (q : ℕ) → Among q (crossed_pipes S route) → Among q route
-crossed-on S [] q a = absurd a
-crossed-on S (x ∷ []) q a = absurd a
-crossed-on S (x ∷ y ∷ route) q a = go (owner_of S x == owner_of S y) a (λ b. crossed-on S (y ∷ route) q b)
+crossed-on : (owners : List ℕ) (route : List ℕ) (q : ℕ) → Among q (crossed_pipes owners route) → Among q route
+crossed-on owners [] q a = absurd a
+crossed-on owners (x ∷ []) q a = absurd a
+crossed-on owners (x ∷ y ∷ route) q a = go (slice_index owners x == slice_index owners y) a (λ b. crossed-on owners (y ∷ route) q b)
   where
-    go : (t : Bool) → Among q (cond t (crossed_pipes S (y ∷ route)) (x ∷ crossed_pipes S (y ∷ route)))
-        → (Among q (crossed_pipes S (y ∷ route)) → Among q (y ∷ route)) → Among q (x ∷ y ∷ route)
+    go : (t : Bool) → Among q (cond t (crossed_pipes owners (y ∷ route)) (x ∷ crossed_pipes owners (y ∷ route)))
+        → (Among q (crossed_pipes owners (y ∷ route)) → Among q (y ∷ route)) → Among q (x ∷ y ∷ route)
     go true b rest = inr (rest b)
     go false (inl e) rest = inl e
     go false (inr b) rest = inr (rest b)
@@ -282,12 +307,12 @@ module _ (S : SetupView) (is : IsSetup S) (marks : List Bool) (crossed : (q : �
   known q c =
       let r = packet-route S is c.0 (packet-known S is c.0 c.1) in
       let named = subst (λ (l : List ℕ). All (λ pipe. pipe < length S.pipes) l) r.is r.named in
-      All-Among (λ pipe. pipe < length S.pipes) q (route_of S c.0.number) named (crossed-on S (route_of S c.0.number) q c.2)
+      All-Among (λ pipe. pipe < length S.pipes) q (route_of S c.0.number) named (crossed-on S.owners (route_of S c.0.number) q c.2)
 
   crossing : (q latency : ℕ) → IsCrossed S q → Among latency (latencies_of S q) → Among latency (crossing_latencies S)
   crossing q latency c a =
-      Among-flat_map (λ (p : PacketPlan). flat_map (latencies_of S) (crossed_pipes S (route_of S p.number))) c.0 latency S.packets c.1
-      (Among-flat_map (latencies_of S) q latency (crossed_pipes S (route_of S c.0.number)) c.2 a)
+      Among-flat_map (λ (p : PacketPlan). flat_map (latencies_of S) (crossed_pipes S.owners (route_of S p.number))) c.0 latency S.packets c.1
+      (Among-flat_map (latencies_of S) q latency (crossed_pipes S.owners (route_of S c.0.number)) c.2 a)
 
   changed : (c : PipeChange) (q : ℕ) → Among c S.changes → c.pipe ≡ q → Among c.params.latency_ticks (latencies_of S q)
   changed c q a e =
@@ -300,8 +325,8 @@ module _ (S : SetupView) (is : IsSetup S) (marks : List Bool) (crossed : (q : �
     low-of : (latency : ℕ) → Among latency (crossing_latencies S) → r ≤ latency
     low-of latency a =
         let packet =
-        Among-from-flat_map (λ (p : PacketPlan). flat_map (latencies_of S) (crossed_pipes S (route_of S p.number))) latency S.packets a in
-        let pipe = Among-from-flat_map (latencies_of S) latency (crossed_pipes S (route_of S packet.0.number)) packet.2 in
+        Among-from-flat_map (λ (p : PacketPlan). flat_map (latencies_of S) (crossed_pipes S.owners (route_of S p.number))) latency S.packets a in
+        let pipe = Among-from-flat_map (latencies_of S) latency (crossed_pipes S.owners (route_of S packet.0.number)) packet.2 in
         go pipe.0 (packet.0, packet.1, pipe.1) pipe.2
       where
         go : (q : ℕ) → IsCrossed S q → Among latency (latencies_of S q) → r ≤ latency

@@ -56,8 +56,8 @@ module _ (S : SetupView) where
   pub crossing-params : (latency : ℕ) → Among latency (crossing_latencies S) → (p : PipeParams) × (p.latency_ticks ≡ latency)
   crossing-params latency a =
       let packet =
-      Among-from-flat_map (λ (p : PacketPlan). flat_map (latencies_of S) (crossed_pipes S (route_of S p.number))) latency S.packets a in
-      let pipe = Among-from-flat_map (latencies_of S) latency (crossed_pipes S (route_of S packet.0.number)) packet.2 in
+      Among-from-flat_map (λ (p : PacketPlan). flat_map (latencies_of S) (crossed_pipes S.owners (route_of S p.number))) latency S.packets a in
+      let pipe = Among-from-flat_map (latencies_of S) latency (crossed_pipes S.owners (route_of S packet.0.number)) packet.2 in
       latency-params pipe.0 latency pipe.2
 
   crossing-short : (latency : ℕ) → Among latency (crossing_latencies S) → (1 ≤ latency) × (latency < LOOKAHEAD_MAX)
@@ -87,6 +87,11 @@ module _ (S : SetupView) where
           let low : fold min LOOKAHEAD_MAX (crossing_latencies S) ≤ x = fold-min-among LOOKAHEAD_MAX x (crossing_latencies S) here in
           let high : x < LOOKAHEAD_MAX = (crossing-short x here).1 in
           absurd (omega (arith, m, low, high))
+
+  -- at most the greatest length that a window has
+  pub lookahead-most : lookahead_of S ≤ LOOKAHEAD_MAX
+  unfolding lookahead_of
+  lookahead-most = fold-min-bound LOOKAHEAD_MAX (crossing_latencies S)
 
   -- so it is a length that windows may have
   pub least_is_lookahead : IsWindowLength S (lookahead_of S)

@@ -8,6 +8,10 @@ use Rattle.journal.specs.SetupView.{SetupView, packet_of}
 abbrev pub owner_of : SetupView → ℕ → ℕ
 owner_of S pipe = slice_index S.owners pipe
 
+-- the setup with these owners of its pipes
+abbrev pub owned_by : SetupView → List ℕ → SetupView
+owned_by S owners = record S { owners = owners }
+
 -- the pipes that a core owns, in order
 abbrev pub own_pipes : SetupView → ℕ → List ℕ
 own_pipes S core = filter (λ pipe. owner_of S pipe == core) (range_with_len 0 (length S.pipes))

@@ -12,11 +12,11 @@ Has marks pipe = slice_index_or marks pipe false ≡ true
 
 -- the route of some packet leaves the pipe for a pipe of another core
 abbrev pub IsCrossed : SetupView → ℕ → Type 0
-IsCrossed S pipe = (p : PacketPlan) × Among p S.packets × Among pipe (crossed_pipes S (route_of S p.number))
+IsCrossed S pipe = (p : PacketPlan) × Among p S.packets × Among pipe (crossed_pipes S.owners (route_of S p.number))
 
 -- the pipes that the route at this index leaves for a pipe of another core
 abbrev pub crossed_by : SetupView → ℕ → List ℕ
-crossed_by S route = crossed_pipes S (slice_index_or S.routes route [])
+crossed_by S route = crossed_pipes S.owners (slice_index_or S.routes route [])
 
 -- all such pipes of the routes before this index are in the set
 abbrev pub HasRoutesBefore : SetupView → List Bool → ℕ → Type 0

@@ -2,6 +2,7 @@ ghost use Rattle.std.specs.Prelude.{◌≡◌, ◌⊎◌, ◌↔◌, ℕ, ◌<�
 ghost use Rattle.mn_base.specs.Among.{Among};
 ghost use Rattle.mn_base.specs.declared.limits.TheConstants.{PIPES_MAX, LOOKAHEAD_MAX};
 ghost use Rattle.journal.specs.IsSetup.{IsSetup};
+ghost use Rattle.parcel.specs.Owners.{owned_by};
 ghost use Rattle.parcel.specs.Lookahead.{crossed_pipes, lookahead_of};
 ghost use Rattle.parcel.specs.PipeSets.{Has, IsCrossed, HasRoutesBefore, AddsRoute, IsLeastOf, IsFirstLatency, IsChangedLatency};
 
@@ -11,26 +12,37 @@ use mn_base::limits::LOOKAHEAD_MAX;
 
 /// The lookahead of a setup, in ticks: the least latency, over first parameters and all changes, of a pipe that the route of some
 /// packet leaves for a pipe of another core; `LOOKAHEAD_MAX` where there is no such pipe. Windows are that long.
-///
-/// It goes once through the routes that packets take, then once through the pipes and the changes.
 pub fn lookahead(setup: &Setup) -> u64
     ensures { result ≡ lookahead_of setup.now }
 {
+    lookahead_by(setup, &setup.parts().owners)
+}
+
+/// The lookahead in ticks that a setup has with these owners of its pipes, one core for each pipe.
+///
+/// It goes once through the routes that packets take, then once through the pipes and the changes.
+pub fn lookahead_by(setup: &Setup, owners: &[u32]) -> u64
+    requires one_a_pipe { length owners.now ≡ length setup.now.pipes }
+    requires cores { All (λ core. core < setup.now.cores) owners.now }
+    ensures lookahead { result ≡ lookahead_of (owned_by setup.now owners.now) }
+    ensures positive { 1 ≤ result }
+    ensures most { result ≤ LOOKAHEAD_MAX }
+{
     let parts = setup.parts();
-    let crossed = crossed_of(parts);
+    let crossed = crossed_of(parts, owners);
     let least = least_of_first(parts, &crossed);
     least_of_changes(parts, &crossed, least)
 }
 
 /// The pipes that the route of some packet leaves for a pipe of another core.
-fn crossed_of(parts: &SetupParts) -> PipeSet
-    requires { IsSetup parts.now }
-    ensures { (q : ℕ) → Has result q ↔ IsCrossed parts.now q }
+fn crossed_of(parts: &SetupParts, owners: &[u32]) -> PipeSet
+    requires { IsSetup (owned_by parts.now owners.now) }
+    ensures { (q : ℕ) → Has result q ↔ IsCrossed (owned_by parts.now owners.now) q }
 {
     let mut crossed = PipeSet::empty();
     let mut walked = 0;
     for packet in &parts.packets {
-        walked = walk(parts, packet.route as usize, walked, &mut crossed);
+        walked = walk(parts, owners, packet.route as usize, walked, &mut crossed);
     }
     crossed
 }
@@ -39,16 +51,22 @@ fn crossed_of(parts: &SetupParts) -> PipeSet
 /// they are now.
 ///
 /// A plan numbers its routes as its packets come to take them. Then each is gone through once.
-fn walk(parts: &SetupParts, route: usize, walked: usize, crossed: &mut PipeSet) -> usize
-    requires setup { IsSetup parts.now }
+fn walk(
+    parts: &SetupParts,
+    owners: &[u32],
+    route: usize,
+    walked: usize,
+    crossed: &mut PipeSet,
+) -> usize
+    requires setup { IsSetup (owned_by parts.now owners.now) }
     requires known { route < length parts.now.routes }
-    requires before { HasRoutesBefore parts.now crossed.old walked }
-    ensures { AddsRoute parts.now crossed.old crossed.new route result }
+    requires before { HasRoutesBefore (owned_by parts.now owners.now) crossed.old walked }
+    ensures { AddsRoute (owned_by parts.now owners.now) crossed.old crossed.new route result }
 {
     if route < walked {
         return walked;
     }
-    add_crossed(parts, &parts.routes[route], crossed);
+    add_crossed(owners, &parts.routes[route], crossed);
     if route == walked {
         return walked + 1;
     }
@@ -56,14 +74,14 @@ fn walk(parts: &SetupParts, route: usize, walked: usize, crossed: &mut PipeSet) 
 }
 
 /// Adds the pipes that a list of pipes leaves for a pipe of another core.
-fn add_crossed(parts: &SetupParts, route: &[u32], crossed: &mut PipeSet)
-    requires few { length parts.now.owners ≤ PIPES_MAX }
-    requires named { All (λ pipe. pipe < length parts.now.owners) route.now }
-    ensures { (q : ℕ) → Has crossed.new q ↔ (Has crossed.old q ⊎ Among q (crossed_pipes parts.now route.now)) }
+fn add_crossed(owners: &[u32], route: &[u32], crossed: &mut PipeSet)
+    requires few { length owners.now ≤ PIPES_MAX }
+    requires named { All (λ pipe. pipe < length owners.now) route.now }
+    ensures { (q : ℕ) → Has crossed.new q ↔ (Has crossed.old q ⊎ Among q (crossed_pipes owners.now route.now)) }
 {
     for hop in 1..route.len() {
         let pipe = route[hop - 1];
-        if parts.owners[pipe as usize] != parts.owners[route[hop] as usize] {
+        if owners[pipe as usize] != owners[route[hop] as usize] {
             crossed.add(pipe);
         }
     }

@@ -18,7 +18,7 @@ mod ports;
 
 pub use core_result::{CoreResult, Settled};
 pub use counts::{CoreCounts, PipeCounts};
-pub use crossed::lookahead;
+pub use crossed::{lookahead, lookahead_by};
 pub use note::Note;
 pub use parcel::Parcel;
 pub use plain_boxes::PlainBoxes;

@@ -1,4 +1,4 @@
-use crate::{Generated, out_trace, print_report, print_summary};
+use crate::{Generated, out_trace, print_moves, print_report, print_summary};
 use journal::{LossBy, PacketPlan, Setup, SetupParts};
 use mn_base::limits::{KEEP_MAX, LINK_TYPE_RAW, TICK_NS_DEFAULT};
 use mn_base::{Bytes, Cause, NoMemory, PipeParams, Unbound};
@@ -202,6 +202,14 @@ fn summaries_tell_the_greatest_tick_of_all_that_left(rt: HostRuntime) -> Result<
         gml 8300 trace 204\n\
         packets 5 bound 4 unbound 1 left 3 dropped 1\n\
         last-tick 60\n";
+    assert_eq!(rt; text.as_slice(), expected.as_slice());
+    Ok(())
+}
+
+#[test]
+fn moves_are_told_before_the_visits_of_each_core(rt: HostRuntime) -> Result<(), Fail> {
+    let text = print_moves(rt.alloc(), 2, 1, &[5, 0])?;
+    let expected = b"modelnet moves 1\nwindows 2 moved 1\ncore 0 visits 5\ncore 1 visits 0\n";
     assert_eq!(rt; text.as_slice(), expected.as_slice());
     Ok(())
 }

@@ -1,5 +1,5 @@
 -- Lists joined from pieces, and lists with the same members.
-use Rattle.std.proofs.Common.{◌≡◌, ◌≢◌, ◌⊎◌, ℕ, zero, suc, ◌+◌, ◌<◌, false, List, [], ◌∷◌, ◌++◌, length, map, filter_map, get_or, take, Option, Some, None, slice_get, slice_index_or, All, AllPairs, refl, sym, ap, ◌∙◌, subst, inl, inr, arith, true≢false, ⊎_elim}
+use Rattle.std.proofs.Common.{◌≡◌, ◌≢◌, ◌⊎◌, ℕ, zero, suc, ◌+◌, ◌<◌, List, [], ◌∷◌, ◌++◌, length, map, filter_map, get_or, take, Option, Some, None, slice_get, slice_index_or, All, AllPairs, refl, sym, ap, ◌∙◌, subst, inl, inr, arith, true≢false, ⊎_elim}
 use Rattle.std.specs.List.{flat_map, cons_option, range_with_len}
 use Rattle.std.specs.List.Sorted.{IsPermutation, IsSortedByKey}
 use Rattle.std.specs.Ordering.{nat_cmp, is_lt}
@@ -14,7 +14,7 @@ use Rattle.std.proofs.lemmas.List.Kept.{AllPairs-cons}
 use Rattle.std.proofs.lemmas.List.MinMax.{ranks_by}
 use Rattle.std.proofs.lemmas.List.Sorted.{sorted_far, IsPermutation-refl, IsPermutation-sym, IsPermutation-cons, IsPermutation-trans, IsPermutation-middle}
 use Rattle.mn_base.specs.Among.{Among}
-use Rattle.mn_base.proofs.Members.{Among-append, Among-append-left, Among-append-right, Among-index, Among-map, Among-from-map, Among-filter_map, Among-from-filter_map, index_of, SplitAt, split_at}
+use Rattle.mn_base.proofs.Members.{Among-append, Among-index, Among-from-map, Among-from-filter_map, index_of, SplitAt, split_at}
 use Rattle.journal.proofs.HeldOrder.{among-permuted}
 use Rattle.parcel.proofs.Lookaheads.{Among-from-flat_map}
 use Rattle.parcel.proofs.InOrder.{Within, before-rest, rest-ordered, permuted-differ}

@@ -9,6 +9,7 @@ pub mod Merged
 pub mod NoCores
 pub mod OneOutcome
 pub mod Outcomes
+pub mod Settlements
 pub mod Sums
 pub mod Tallies
 pub mod Walks

@@ -10,7 +10,7 @@ mod merging;
 mod outcome;
 
 pub use gathering::gather;
-pub use merging::merge;
+pub use merging::{merge, outcome_of};
 pub use outcome::{DropLine, Leaving, Outcome};
 
 #[cfg(test)]

@@ -1,9 +1,10 @@
-ghost use Rattle.std.specs.Prelude.{◌≡◌, ℕ, List, map, filter_map, IfOk};
+ghost use Rattle.std.specs.Prelude.{◌≡◌, ℕ, List, length, map, filter_map, IfOk};
 ghost use Rattle.std.specs.List.{flat_map, range_with_len};
 ghost use Rattle.journal.specs.Journal.{journal_of};
+ghost use Rattle.parcel.specs.Counts.{counts_of};
 ghost use Rattle.parcel.specs.Results.{counts_at, AreResults};
 ghost use Rattle.settle.specs.IsOutcome.{IsOutcome};
-ghost use Rattle.settle.specs.Settlements.{leaving_settled, drop_settled};
+ghost use Rattle.settle.specs.Settlements.{leaving_settled, drop_settled, AreAllSettled};
 
 use crate::outcome::{DropLine, Leaving, Outcome};
 use journal::{Fate, Setup};
@@ -20,11 +21,30 @@ pub fn merge(alloc: Global, setup: &Setup, results: Vec<CoreResult>) -> Result<O
     ensures cores { IfOk result (λ o. o.cores ≡ map (λ r. r.counts) results.items) }
     ensures counts { IfOk result (λ o. o.cores ≡ map (counts_at setup.now) (range_with_len 0 setup.now.cores)) }
 {
-    let parts = setup.parts();
     let cores = all_counts(alloc, &results)?;
-    let mut pipe_counts = all_pipe_counts(alloc, parts.pipes.len(), &results)?;
+    let mut pipe_counts = all_pipe_counts(alloc, setup.parts().pipes.len(), &results)?;
     pipe_counts.sort_by_key(|counts| counts.pipe)?;
     let settled = all_settled(alloc, results)?;
+    let outcome = outcome_of(alloc, setup, settled, pipe_counts, cores)?;
+    Ok(outcome)
+}
+
+/// The outcome of a setup, by its settled packets, in any order, the counts of all its pipes, in pipe order, and what its cores
+/// did. Packets are sorted once, and the bytes of those that left are moved.
+pub fn outcome_of(
+    alloc: Global,
+    setup: &Setup,
+    settled: Vec<Settled>,
+    pipe_counts: Vec<PipeCounts>,
+    cores: Vec<CoreCounts>,
+) -> Result<Outcome, NoMemory>
+    requires settled { (bytes : List (List ℕ)) × AreAllSettled setup.now bytes settled.items }
+    requires pipe_counts { pipe_counts.items ≡ map (counts_of (journal_of setup.now)) (range_with_len 0 (length setup.now.pipes)) }
+    ensures outcome { IfOk result (λ o. (bytes : List (List ℕ)) → AreAllSettled setup.now bytes settled.items
+        → IsOutcome setup.now (journal_of setup.now) bytes o) }
+    ensures cores { IfOk result (λ o. o.cores ≡ cores.items) }
+{
+    let _parts = setup.parts();
     let mut dropped = all_dropped(alloc, &settled)?;
     dropped.sort_by_key(|line| line.packet)?;
     let mut leaving = all_leaving(alloc, settled)?;

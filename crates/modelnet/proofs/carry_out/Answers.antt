@@ -2,8 +2,8 @@ use Rattle.modelnet.proofs.carry_out.Goals as goal
 
 pub returns : goal.returns
 returns g c = record {
-  status = c.plain-status.result;
-  answered = c.plain-status.ensures.answers;
-  exact = c.plain-status.ensures.exact;
+  status = c.modelnet-status.result;
+  answered = c.modelnet-status.ensures.answers;
+  exact = c.modelnet-status.ensures.exact;
   number_is = c.end.ensures;
 }

@@ -2,6 +2,7 @@ use crate::status::Status;
 use crate::status_line::status_line;
 use changes::ChangesFault;
 use gml_reader::{GmlFault, Item};
+use journal_check::JournalFault;
 use mn_edge::Role;
 use mn_words::{Opt, WordsFault};
 use ownership::AssignFault;
@@ -37,6 +38,7 @@ fn lines_of_words(rt: HostRuntime) -> Result<(), Fail> {
         WordsFault::Value(Opt::Packets),
         WordsFault::Value(Opt::Pipe),
         WordsFault::Value(Opt::Loss),
+        WordsFault::Value(Opt::Move),
     ];
     let lines = lines_of(rt.alloc(), &faults.map(Status::BadWords))?;
     let expected = "\
@@ -53,6 +55,7 @@ modelnet: bad value of --number
 modelnet: bad value of --packets
 modelnet: bad value of PIPE
 modelnet: bad value of --loss
+modelnet: bad value of MOVE
 ";
     assert_eq!(rt; lines.as_slice(), expected.as_bytes());
     Ok(())
@@ -181,6 +184,11 @@ fn lines_of_roles_and_of_memory(rt: HostRuntime) -> Result<(), Fail> {
         Status::TooLarge(Role::Topology),
         Status::TooLarge(Role::Trace),
         Status::TooLarge(Role::Directory),
+        Status::ReadFault(Role::Journal),
+        Status::TooLarge(Role::Journal),
+        Status::BadJournal(JournalFault::Line(5)),
+        Status::BadJournal(JournalFault::Short(6)),
+        Status::BadMove(0),
         Status::WriteFault(Role::Out),
         Status::WriteFault(Role::Report),
         Status::WriteFault(Role::Screen),
@@ -194,6 +202,11 @@ modelnet: cannot read directory
 modelnet: topology is too large
 modelnet: trace is too large
 modelnet: directory is too large
+modelnet: cannot read journal
+modelnet: journal is too large
+modelnet: journal: line 5 differs
+modelnet: journal: ends after 6 lines
+modelnet: no pipe of move 0
 modelnet: cannot write out
 modelnet: cannot write report
 modelnet: cannot write screen

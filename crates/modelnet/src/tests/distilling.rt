@@ -9,7 +9,9 @@ use crate::read_limits::ReadLimits;
 use crate::status::Status;
 use core_loop::Tally;
 use gml_reader::{GmlFault, Item};
-use mn_base::limits::{DIRECTORY_BYTES_MAX, TOPOLOGY_BYTES_MAX, TRACE_BYTES_MAX};
+use mn_base::limits::{
+    DIRECTORY_BYTES_MAX, JOURNAL_BYTES_MAX, TOPOLOGY_BYTES_MAX, TRACE_BYTES_MAX,
+};
 use mn_edge::{Fail, MemoryHost, Op, Role};
 use plan::PlanFault;
 use std::alloc::AllocError;
@@ -244,6 +246,7 @@ pub fn status_within(rt: &(impl Abort + AllocGlobal), line: &str, limit: usize) 
         topology: limit,
         trace: TRACE_BYTES_MAX,
         directory: DIRECTORY_BYTES_MAX,
+        journal: JOURNAL_BYTES_MAX,
     };
     plain_within(rt.alloc(), &limits, &words, &mut host, &mut Tally::new())
 }

@@ -1,8 +1,10 @@
-//! `rehearse` that ends early: each answer that may come in the place of Done.
+//! `rehearse` that ends early: each answer that may come in the place of Done; and what the other commands that plan refuse.
 ghost use Rattle.mn_edge.specs.declared.role.Role.{Role};
 ghost use Rattle.modelnet.specs.TheCommands.{AreWithinUsual};
 
 use super::distilling::fan_of_routers;
+use super::journals::{CHECK, LIST};
+use super::moving::MOVE;
 use super::pcapng::first_bytes;
 use super::rehearsing::{
     CROSS, CROSS_AND_TELL, Inputs, MEET, STAR, TWO_CORES, TWO_PACKETS, TWO_PACKETS_OUT,
@@ -16,7 +18,7 @@ use crate::status::Status;
 use changes::ChangesFault;
 use core_loop::Tally;
 use gml_reader::{GmlFault, Item};
-use mn_base::limits::{TOPOLOGY_BYTES_MAX, TRACE_BYTES_MAX};
+use mn_base::limits::{JOURNAL_BYTES_MAX, TOPOLOGY_BYTES_MAX, TRACE_BYTES_MAX};
 use mn_edge::{Fail, Op, Role};
 use ownership::AssignFault;
 use pcap_io::PcapFault;
@@ -86,7 +88,9 @@ fn each_input_is_refused_by_its_first_fault(rt: HostRuntime) {
             trace,
             directory,
         };
-        assert_refused(&rt, CROSS_AND_TELL, &inputs, status);
+        for line in [CROSS_AND_TELL, LIST, CHECK, MOVE] {
+            assert_refused(&rt, line, &inputs, status);
+        }
     }
 }
 
@@ -182,6 +186,7 @@ fn inputs_above_their_limits_are_too_large(rt: HostRuntime) {
         topology: TOPOLOGY_BYTES_MAX,
         trace: TRACE_BYTES_MAX,
         directory: TWO_STUBS_ON_TWO_CORES.len(),
+        journal: JOURNAL_BYTES_MAX,
     };
     assert_eq!(rt; status_within(&rt, &limits), Status::Done);
     limits.directory = 8;

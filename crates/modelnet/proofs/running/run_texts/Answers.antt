@@ -1,26 +1,19 @@
-use Rattle.std.proofs.Common.{◌∙◌, refl, sym, ap, subst}
-use Rattle.pcap_io.specs.Writing.{pcap_text}
-use Rattle.journal.specs.Journal.{journal_of}
-use Rattle.report.specs.Traces.{trace_of}
-use Rattle.modelnet.proofs.Outputs.{CanBeWritten, can_be_written}
+use Rattle.std.proofs.Common.{◌∙◌, ap}
+use Rattle.modelnet.specs.Writing.{shown}
 use Rattle.modelnet.proofs.running.run_texts.Goals as goal
 
 pub merge-requires : goal.merge-requires
 merge-requires c = record { results = (c.requires.bytes, c.requires.results_are) }
 
-pub out_trace-requires : goal.out_trace-requires
-out_trace-requires c =
-    let S = c.args.setup.now in
-    let bytes = c.requires.bytes in
-    let written = can_be_written S (journal_of S) bytes c.in_ok-outcome.outcome c.parts-parts.ensures.kept c.outputs_fit.ensures refl
-    c.requires.short (c.in_ok-outcome.ensures.outcome bytes c.requires.results_are) in
-    let here = subst (λ ls. CanBeWritten S ls) (sym (ap (λ o. o.leaving) c.outcome.view_is)) written in
-    record { of_setup = here.of_setup; different = here.different; lengths = here.lengths; times = here.times }
+pub outcome_texts-requires : goal.outcome_texts-requires
+outcome_texts-requires c = record {
+  bytes = c.requires.bytes;
+  outcome_is = c.in_ok-outcome.ensures.outcome c.requires.bytes c.requires.results_are;
+  short = c.requires.short;
+}
 
 pub returns-clause-run : goal.returns-clause-run
-returns-clause-run c = λ bytes are. record {
-  outcome = c.in_ok-outcome.outcome;
-  outcome_is = c.in_ok-outcome.ensures.outcome bytes are;
-  out_is = ap (λ t. pcap_text t) (c.in_ok-out.ensures ∙ ap (λ o. trace_of c.args.setup.now o.leaving) c.outcome.view_is);
-  report_is = c.in_ok-report.ensures.text;
-}
+returns-clause-run c = λ bytes are. c.in_ok-texts.ensures.run bytes (c.in_ok-outcome.ensures.outcome bytes are)
+
+pub returns-clause-cluster : goal.returns-clause-cluster
+returns-clause-cluster c = ap (λ s. shown s) c.in_ok-texts.ensures.screen ∙ c.in_ok-screen.ensures

@@ -6,4 +6,4 @@ use Rattle.parcel.proofs.crossed.add_crossed.Given as goal
 
 abbrev pub invariant-loop-hop : goal.invariant-loop-hop
 invariant-loop-hop l =
-    (q : ℕ) → Has l.crossed q ↔ (Has l.initial.crossed q ⊎ Among q (crossed_pipes l.parts (take l.hop l.route)))
+    (q : ℕ) → Has l.crossed q ↔ (Has l.initial.crossed q ⊎ Among q (crossed_pipes l.owners (take l.hop l.route)))

@@ -2,6 +2,7 @@ use Rattle.std.proofs.Common.{List, ap, ◌∙◌}
 use Rattle.std.proofs.lemmas.List.{get_or_default}
 use Rattle.journal.specs.declared.setup.PacketPlan.{PacketPlan}
 use Rattle.journal.specs.SetupView.{SetupView}
+use Rattle.parcel.specs.Owners.{owned_by}
 use Rattle.parcel.proofs.LeastLatency.{packet_added, all_crossed}
 use Rattle.parcel.proofs.crossed.crossed_of.Goals as goal
 
@@ -9,12 +10,12 @@ pub loop-packet-preserved : goal.loop-packet-preserved
 loop-packet-preserved c =
     let plans : List PacketPlan = c.deref-packet-items.result.now in
     let same = c.deref-packet-items.ensures.value ∙ ap (λ (v : SetupView). v.packets) c.parts.view_is in
-    packet_added c.args.parts.now c.requires plans same c.loop-packet.packet-index c.loop-packet-test.true _
+    packet_added (owned_by c.args.parts.now c.args.owners.now) c.requires plans same c.loop-packet.packet-index c.loop-packet-test.true _
     (get_or_default plans c.loop-packet.packet-index _ _ c.loop-packet-test.true)
     c.loop-packet.crossed c.walk-walked.new.crossed c.loop-packet.walked c.walk-walked.result c.loop-packet.invariant c.walk-walked.ensures
 
 pub returns : goal.returns
 returns c =
     let same = c.deref-packet-items.ensures.value ∙ ap (λ (v : SetupView). v.packets) c.parts.view_is in
-    all_crossed c.args.parts.now c.deref-packet-items.result.now same c.loop-packet.packet-index c.loop-packet-test.false c.loop-packet.crossed
-    c.loop-packet.walked c.loop-packet.invariant
+    all_crossed (owned_by c.args.parts.now c.args.owners.now) c.deref-packet-items.result.now same c.loop-packet.packet-index
+    c.loop-packet-test.false c.loop-packet.crossed c.loop-packet.walked c.loop-packet.invariant

@@ -8,7 +8,7 @@ use Rattle.mn_words.proofs.form.Form.fits.Goals as goal
 pub returns-in-None : goal.returns-in-None
 unfolding takes
 returns-in-None c =
-    ap (λ (form : Form). form.takes_pipes) c.self.view_is ∙ fits_bare c.args.self.now c.args.item.now (items_of c.args.after)
+    ap (λ (form : Form). form.takes_bare) c.self.view_is ∙ fits_bare c.args.self.now c.args.item.now (items_of c.args.after)
     (sym (ap (λ (item : Item). item.name) c.item.view_is) ∙ ap (λ name. option_copied name) c.in-None.is)
 
 pub returns-then-takes_option : goal.returns-then-takes_option

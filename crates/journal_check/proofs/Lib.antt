@@ -1,0 +1,4 @@
+pub mod Answered
+pub mod Going
+pub mod JournalLines
+pub mod Partings

@@ -1,0 +1,11 @@
+pub mod Finishing
+pub mod Inside
+pub mod Moves
+pub mod Moving
+pub mod RanView
+pub mod Running
+pub mod ShelvesView
+pub mod Standing
+pub mod Starting
+pub mod UnderWay
+pub mod Windows

@@ -1,0 +1,12 @@
+pub mod AverageOf
+pub mod Count
+pub mod FatesSoFar
+pub mod Making
+pub mod Meets
+pub mod NeverLost
+pub mod Orderly
+pub mod Outcomes
+pub mod Reports
+pub mod Rising
+pub mod Standing
+pub mod VisitsTo

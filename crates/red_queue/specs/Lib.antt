@@ -1,0 +1,11 @@
+pub mod AtWorkParts
+pub mod Fates
+pub mod Inside
+pub mod Journal
+pub mod Laws
+pub mod Making
+pub mod Outcome
+pub mod QueueView
+pub mod Ranges
+pub mod Report
+pub mod SetupView

@@ -1,0 +1,168 @@
+ghost use Rattle.std.specs.Prelude.{◌≡◌, ◌≤◌, ◌++◌, IfOk, OnOk, length, string_bytes};
+ghost use Rattle.red_queue.specs.Report.{red_cause_word, left_count, red_packets_line, red_counts_by, counted, counted_at, HasRedRoom, pipe_text, red_drop_line, drop_text, texts_below, red_report_text};
+
+use crate::fate::{RedCause, RedFate};
+use crate::packet_fates::red_fates;
+use crate::setup::RedSetup;
+use crate::step::RedStep;
+use crate::visit::RedVisit;
+use mn_base::{Bytes, NoMemory};
+use std::alloc::Global;
+
+/// The report of a run through pipes in a row, as ASCII lines that each end with a line feed:
+///
+/// ```text
+/// modelnet red report 1
+/// packets N bound N unbound 0 left L dropped D
+/// pipe Q passed A lost X full F early E
+/// drop P pipe Q tick T cause C
+/// ```
+///
+/// N counts all packets, which are all bound to the one route. There is one `pipe` line for each pipe with at least one visit, by
+/// its number, and then one `drop` line for each dropped packet, by its number; C is `loss`, `early` or `full`. The visits are
+/// those of [`red_journal`](crate::red_journal).
+pub fn print_red_report(
+    alloc: Global,
+    setup: &RedSetup,
+    visits: &[RedVisit],
+) -> Result<Bytes, NoMemory>
+    ensures text { IfOk result (λ text. text ≡ red_report_text setup.now visits.now) }
+{
+    let fates = red_fates(alloc, setup, visits)?;
+    let mut text = String::new(alloc);
+    writeln!(text, "modelnet red report 1")?;
+    write_packets(&mut text, &fates)?;
+    write_pipes(&mut text, setup.pipes.len(), visits)?;
+    write_drops(&mut text, &fates)?;
+    Ok(Bytes::from_vec(text.into_bytes()))
+}
+
+fn write_packets(text: &mut String, fates: &[RedFate]) -> Result<(), NoMemory>
+    ensures { OnOk result (string_bytes text.new ≡ string_bytes text.old ++ red_packets_line fates.now) }
+{
+    let packets = fates.len();
+    let left = count_left(fates);
+    let dropped = packets - left;
+    write!(text, "packets {packets} bound {packets}")?;
+    writeln!(text, " unbound 0 left {left} dropped {dropped}")?;
+    Ok(())
+}
+
+/// How many packets left.
+fn count_left(fates: &[RedFate]) -> usize
+    ensures value { result ≡ left_count fates.now }
+    ensures few { result ≤ length fates.now }
+{
+    fates
+        .iter()
+        .filter(|fate| matches!(**fate, RedFate::Left { .. }))
+        .count()
+}
+
+fn write_pipes(text: &mut String, pipes: usize, visits: &[RedVisit]) -> Result<(), NoMemory>
+    ensures { OnOk result (string_bytes text.new ≡ string_bytes text.old ++ texts_below (pipe_text visits.now) pipes) }
+{
+    for pipe in 0..pipes {
+        write_pipe(text, pipe, visits)?;
+    }
+    Ok(())
+}
+
+fn write_pipe(text: &mut String, pipe: usize, visits: &[RedVisit]) -> Result<(), NoMemory>
+    ensures { OnOk result (string_bytes text.new ≡ string_bytes text.old ++ pipe_text visits.now pipe) }
+{
+    let Counts {
+        passed,
+        lost,
+        full,
+        early,
+    } = count_visits(pipe, visits);
+    if passed == 0 && lost == 0 && full == 0 && early == 0 {
+        return Ok(());
+    }
+    write!(text, "pipe {pipe} passed {passed} lost {lost}")?;
+    writeln!(text, " full {full} early {early}")?;
+    Ok(())
+}
+
+/// What became of the visits to one pipe.
+#[derive(Clone, Copy)]
+struct Counts {
+    passed: usize,
+    lost: usize,
+    full: usize,
+    early: usize,
+}
+
+/// Counts the visits to a pipe.
+fn count_visits(pipe: usize, visits: &[RedVisit]) -> Counts
+    ensures { result ≡ red_counts_by visits.now pipe }
+{
+    let mut counts = Counts {
+        passed: 0,
+        lost: 0,
+        full: 0,
+        early: 0,
+    };
+    for visit in visits {
+        counts = with_visit(counts, pipe, visit);
+    }
+    counts
+}
+
+/// The counts with one more visit, if it is to this pipe.
+fn with_visit(counts: Counts, pipe: usize, visit: &RedVisit) -> Counts
+    requires { HasRedRoom counts }
+    ensures { result ≡ counted_at pipe counts visit.now }
+{
+    if visit.hop as usize == pipe {
+        with_step(counts, visit.step)
+    } else {
+        counts
+    }
+}
+
+/// The counts with one more visit of this step.
+fn with_step(counts: Counts, step: RedStep) -> Counts
+    requires { HasRedRoom counts }
+    ensures { result ≡ counted counts step }
+{
+    let mut counts = counts;
+    match step {
+        RedStep::Lost => counts.lost += 1,
+        RedStep::Early => counts.early += 1,
+        RedStep::Full => counts.full += 1,
+        RedStep::Pass { .. } => counts.passed += 1,
+    }
+    counts
+}
+
+fn write_drops(text: &mut String, fates: &[RedFate]) -> Result<(), NoMemory>
+    ensures { OnOk result (string_bytes text.new ≡ string_bytes text.old ++ texts_below (drop_text fates.now) (length fates.now)) }
+{
+    for (packet, fate) in fates.iter().enumerate() {
+        write_drop(text, packet, *fate)?;
+    }
+    Ok(())
+}
+
+fn write_drop(text: &mut String, packet: usize, fate: RedFate) -> Result<(), NoMemory>
+    ensures { OnOk result (string_bytes text.new ≡ string_bytes text.old ++ red_drop_line packet fate) }
+{
+    let RedFate::Dropped { pipe, tick, cause } = fate else {
+        return Ok(());
+    };
+    let cause = cause_text(cause);
+    writeln!(text, "drop {packet} pipe {pipe} tick {tick} cause {cause}")?;
+    Ok(())
+}
+
+fn cause_text(cause: RedCause) -> &'static str
+    ensures { result.now ≡ red_cause_word cause }
+{
+    match cause {
+        RedCause::Loss => "loss",
+        RedCause::Early => "early",
+        RedCause::Full => "full",
+    }
+}
