@@ -1,0 +1,13 @@
+graph [
+  node [ id 0 address "10.0.0.1" ]
+  node [ id 1 address "10.0.0.2" ]
+  node [ id 2 ]
+  node [ id 3 ]
+  node [ id 4 address "10.0.1.1" ]
+  node [ id 5 address "10.0.1.2" ]
+  edge [ source 0 target 2 bandwidth 10000000 latency 1000 ]
+  edge [ source 1 target 2 bandwidth 10000000 latency 1000 ]
+  edge [ source 2 target 3 bandwidth 2000000 latency 20000 queue 6 loss 50000 ]
+  edge [ source 3 target 4 bandwidth 10000000 latency 1000 ]
+  edge [ source 3 target 5 bandwidth 10000000 latency 1000 ]
+]
