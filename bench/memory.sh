@@ -1,8 +1,9 @@
 #!/bin/bash
-# Refuses each allocation in turn, 1, 2, 3 .., until a run needs no more: of `chain`, `distill` and `assign`, or of the tests of a crate.
+# Refuses each allocation in turn, 1, 2, 3 .., until a run needs no more: of the commands, or of the tests of a crate.
 #
 # usage: bench/memory.sh                      `chain` on the stored trace and on 60 packets over 3 pipes, `distill` on a ring of 12
-#                                             nodes in three modes, `assign` to three cores; some seconds
+#                                             nodes in three modes, `assign` to three cores, `rehearse` and `emulate` on two sites
+#                                             and two cores, `workload` with 100 packets; a minute or two
 #        bench/memory.sh CRATE [LAST]         each test of that crate, up to its allocation LAST (1,000); some seconds to minutes
 #
 # The commands are the built program's (MODELNET names another than crates/modelnet/out/modelnet), and the tests are crates/CRATE/out/CRATE_tests,
@@ -24,6 +25,8 @@ no_report() { [ ! -e "$folder/report.txt" ]; }
 
 # usage: front FILE WHOLE: FILE is a front of WHOLE, or isn't there
 front() { [ ! -e "$1" ] || cmp -s -n "$(stat -c %s "$1")" "$1" "$2"; }
+no_screen() { [ ! -s "$folder/screen" ]; }
+screen_is_whole() { cmp -s "$folder/screen" "$folder/whole.screen"; }
 cut_at_out() { front "$folder/out.pcap" "$folder/whole.pcap" && no_report; }
 cut_at_report() { out_is_whole && front "$folder/report.txt" "$folder/whole.txt"; }
 
@@ -82,11 +85,11 @@ screen_allowed() {
     esac
 }
 
-# usage: sweep_ring NAME COMMAND OPTION..: refuses each allocation of a command that prints what it makes of the ring in turn
-sweep_ring() {
-    local name=$1 command=$2 number=0 status line
-    shift 2
-    local words=("$command" --topology "$folder/ring.gml" "$@")
+# usage: sweep_screen NAME WORD..: refuses each allocation of a command that prints alone in turn
+sweep_screen() {
+    local name=$1 number=0 status line
+    shift
+    local words=("$@")
     "$binary" "${words[@]}" >"$folder/whole.screen"
     : >"$folder/ends"
     while true; do
@@ -102,6 +105,51 @@ sweep_ring() {
         fi
     done
     if [ "$status" != 0 ] || ! cmp -s "$folder/screen" "$folder/whole.screen"; then
+        echo "$name: a run with all its memory ended with status $status" >&2
+        wrong=1
+    fi
+    echo "$name: $((number - 1)) allocations refused"
+    sort "$folder/ends" | uniq -c
+}
+
+# usage: run_allowed STATUS LINE: a refused run over a topology may end so, and may have left what it left
+run_allowed() {
+    case "$1 $2" in
+        "0 ") out_is_whole && report_is_whole && screen_is_whole ;;
+        "1 " | "1 modelnet: no memory" | "6 modelnet: cannot read topology" | "6 modelnet: cannot read trace") no_out && no_report && no_screen ;;
+        "7 modelnet: cannot write out") cut_at_out && no_screen ;;
+        "7 modelnet: cannot write report") cut_at_report && no_screen ;;
+        "7 modelnet: cannot write screen") out_is_whole && report_is_whole && front "$folder/screen" "$folder/whole.screen" ;;
+        "6 ") [ "$REFUSE_FROM" = 1 ] && no_out && no_report && no_screen ;;
+        "7 ") [ "$REFUSE_FROM" = 1 ] && { cut_at_out || cut_at_report || { out_is_whole && report_is_whole; }; } ;;
+        *) false ;;
+    esac
+}
+
+# usage: sweep_run NAME COMMAND: refuses each allocation of a run over two sites, on two cores and with a cluster report, in turn
+sweep_run() {
+    local name=$1 command=$2 number=0 status line
+    local data=$here/crates/modelnet/data
+    local words=("$command" --topology "$data/two_sites.gml" --trace "$data/two_sites.pcap" --out "$folder/out.pcap"
+        --report "$folder/report.txt" --cores 2 --cluster-report yes)
+    "$binary" "${words[@]}" >"$folder/whole.screen"
+    mv "$folder/out.pcap" "$folder/whole.pcap"
+    mv "$folder/report.txt" "$folder/whole.txt"
+    : >"$folder/ends"
+    while true; do
+        number=$((number + 1))
+        rm -f "$folder/out.pcap" "$folder/report.txt"
+        status=0
+        LD_PRELOAD=$folder/refuse.so REFUSE=$number "$binary" "${words[@]}" 2>"$folder/line" 9>"$folder/refused" >"$folder/screen" || status=$?
+        [ -s "$folder/refused" ] || break
+        line=$(cat "$folder/line")
+        echo "status $status, ${line:-no line}" >>"$folder/ends"
+        if ! run_allowed "$status" "$line"; then
+            echo "$name: allocation $number: status $status, '$line'" >&2
+            wrong=1
+        fi
+    done
+    if [ "$status" != 0 ] || ! out_is_whole || ! report_is_whole || ! screen_is_whole; then
         echo "$name: a run with all its memory ended with status $status" >&2
         wrong=1
     fi
@@ -197,9 +245,13 @@ for REFUSE_FROM in 0 1; do
     [ "$REFUSE_FROM" = 0 ] && how="one refused" || how="all refused from one on"
     sweep "one packet, $how" "$here/crates/modelnet/data/in.pcap" 8000000:5000:50:0
     sweep "60 packets, $how" "$folder/in.pcap" 8000000:50:8:0 100000000:300:50:100000 8000000:5000:3:0
-    sweep_ring "a ring walked in, $how" distill --mode=walk:1
-    sweep_ring "a ring end to end, $how" distill --mode=end
-    sweep_ring "a ring walked out, $how" distill --mode=walk:1:1
-    sweep_ring "a ring on three cores, $how" assign --mode=walk:1 --cores=3
+    sweep_screen "a ring walked in, $how" distill --topology "$folder/ring.gml" --mode=walk:1
+    sweep_screen "a ring end to end, $how" distill --topology "$folder/ring.gml" --mode=end
+    sweep_screen "a ring walked out, $how" distill --topology "$folder/ring.gml" --mode=walk:1:1
+    sweep_screen "a ring on three cores, $how" assign --topology "$folder/ring.gml" --mode=walk:1 --cores=3
+    for command in rehearse emulate; do
+        sweep_run "two sites by $command, $how" "$command"
+    done
+    sweep_screen "a workload, $how" workload --number 7 --packets 100
 done
 exit "$wrong"
