@@ -1,4 +1,4 @@
--- What is left of a text behind its first lines.
+-- What is left of a text after its first lines.
 use Rattle.std.proofs.Common.{◌≡◌, ◌<◌, ◌+◌, ℕ, zero, suc, List, [], ◌∷◌, ◌++◌, length, take, drop, refl, sym, ap, ◌∙◌, arith, length-drop, drop-drop, take-add, append_assoc}
 use Rattle.mn_base.specs.Lines.{lines_of, text_of_lines}
 
@@ -9,7 +9,7 @@ byte_left text [] done ahead more =
     absurd (omega (arith, length-drop done (lines_of text)))
 byte_left text (b ∷ rest) done ahead more = omega arith
 
--- the line that is left first, and those behind it
+-- the line that is left first, and those after it
 pub one_line_more : (lines ls : List (List ℕ)) (line : List ℕ) (done : ℕ) → line ∷ ls ≡ drop done lines → ls ≡ drop (done + 1) lines
 one_line_more lines ls line done ahead = ap (drop 1) ahead ∙ drop-drop 1 done lines
 

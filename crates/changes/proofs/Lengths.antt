@@ -20,7 +20,7 @@ use Rattle.changes.specs.Splits.{IsSecond, IsOther, SplitsTo}
 use Rattle.changes.proofs.Ahead.{text_of_lines-append}
 
 -- ---- a number
--- digits behind a value make it less than ten times as much for each
+-- digits after a value make it less than ten times as much for each
 value_below : (value : ℕ) (text : List ℕ) → list_all is_digit text ≡ true → fold with_digit value text < (value + 1) * 10 ^ length text
 value_below value [] digits = omega arith
 value_below value (b ∷ text) digits =

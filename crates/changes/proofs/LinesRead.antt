@@ -22,7 +22,7 @@ pub record IsReading (pipes : ℕ) (lines left : List (List ℕ)) (changes : Lis
 pub nothing_read : (pipes : ℕ) (lines : List (List ℕ)) → IsReading pipes lines lines []
 nothing_read pipes lines = record { before = []; split = refl; are = no_lines pipes; faults = refl }
 
--- the next line has this number and stands behind this change, if there is one
+-- the next line has this number and stands after this change, if there is one
 pub record IsNextLine (pipes n : ℕ) (lines left : List (List ℕ)) (line : List ℕ) (changes : List Change) (last : Option Change) : Type 0 where
   pub reading : IsReading pipes lines (line ∷ left) changes
   pub number : n ≡ pipes + 2 + length changes

@@ -75,7 +75,7 @@ said_by pipes before (line ∷ lines) changes are none =
     subst (λ (ls : List (List ℕ)). SaidBy pipes ls) (append_assoc before (line ∷ []) lines)
     (said_by pipes (before ++ line ∷ []) lines (changes ++ said.0 ∷ []) (push_line pipes before changes line said.0 are said.1 passes) parts.1)
 
--- the change at a place of a longer list comes behind the last before it
+-- the change at a place of a longer list comes after the last before it
 behind_last : (changes : List Change) (change : Change) (more : List Change) → AllPairs PrecedesChange (changes ++ change ∷ more)
     → option_map_or (λ earlier. precedes_change earlier change) (slice_get changes (length changes - 1)) true ≡ true
 behind_last [] change more rise = refl

@@ -9,7 +9,7 @@ use Rattle.changes.specs.Changes.{change_of, change_labels}
 use Rattle.changes.specs.Faults.{count_of, second_head_labels}
 use Rattle.changes.specs.Answers.{numbers_as_change}
 
--- what was read of a head line: three numbers, each behind its label, nothing behind the last, and whether they are those of the run
+-- what was read of a head line: three numbers, each after its label, nothing after the last, and whether they are those of the run
 pub record HeadRead (cores pipes : ℕ) (line : List ℕ) (result : Option ℕ) : Type 0 where
   pub said_cores : ℕ
   pub said_pipes : ℕ
@@ -36,7 +36,7 @@ head_is_read cores pipes line result read =
     as_cond true = refl
     as_cond false = refl
 
--- what was read of the line of a change: six numbers, each behind its label, and whether nothing is behind the last
+-- what was read of the line of a change: six numbers, each after its label, and whether nothing is after the last
 pub record ChangeRead (line : List ℕ) (numbers : ChangeLine) : Type 0 where
   pub behind_tick : List ℕ
   pub behind_pipe : List ℕ
@@ -51,7 +51,7 @@ pub record ChangeRead (line : List ℕ) (numbers : ChangeLine) : Type 0 where
   pub queue_read : field_of (codes " queue ") behind_us ≡ Some (numbers.queue, behind_queue)
   pub ppm_read : field_of (codes " ppm ") behind_queue ≡ Some (numbers.ppm, behind_ppm)
 
--- the change that a line says is the one of the numbers that were read, if nothing is behind them
+-- the change that a line says is the one of the numbers that were read, if nothing is after them
 pub change_is_read : (line : List ℕ) (numbers : ChangeLine) (ends : Bool) (result : Option ChangeLine) (read : ChangeRead line numbers)
     → ends ≡ (length read.behind_ppm == 0) → result ≡ then_some ends numbers → option_map numbers_as_change result ≡ change_of line
 unfolding change_of change_labels

@@ -1,4 +1,4 @@
--- A text of the second version as a whole: what its head line says, and its first fault by the head line and the lines behind it.
+-- A text of the second version as a whole: what its head line says, and its first fault by the head line and the lines after it.
 use Rattle.std.proofs.Common.{◌≡◌, ◌<◌, ◌≤◌, ◌+◌, ◌==◌, ◌⊎◌, inl, inr, ⊎_elim, ℕ, zero, suc, Bool, true, false, cond, not, ◌&&◌, nat_le, List, [], ◌∷◌, ◌++◌, length, take, drop, Option, Some, None, Result, Ok, Err, refl, sym, ap, ap₂, ◌∙◌, subst, arith, one-add, take-append-drop, length-drop, length-append, length-take-le, drop_at, take_at}
 use Rattle.std.specs.Prelude.{MatchBool, option_and_then, IfOk}
 use Rattle.std.proofs.lemmas.Bool.{and_parts, eqb-true, leb-true, eq-eqb, le-leb, ne_eqb, cases_eq, cases_Bool, MatchBool-at_true, MatchBool-at_false}
@@ -81,7 +81,7 @@ lines_fault pipes head body count same =
     rw (eq-eqb (length (head ∷ body)) (1 + pipes + count) (omega (arith, same)), one-add) refl
 
 -- ---- what the text says
--- a text has a head line of these cores and pipes and so many changes, and as many lines behind it
+-- a text has a head line of these cores and pipes and so many changes, and as many lines after it
 pub record IsHeaded (text : List ℕ) (cores pipes : ℕ) (head : List ℕ) (body : List (List ℕ)) (count : ℕ) : Type 0 where
   pub lines : lines_of text ≡ head ∷ body
   pub says : count_of cores pipes head ≡ Some count

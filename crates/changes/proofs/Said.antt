@@ -57,7 +57,7 @@ before_trans c d e (inr a) (inr b) =
     let high : d.pipe < e.pipe = b.1 in
     inr (first ∙ second, omega arith)
 
--- what comes behind the last comes behind each
+-- what comes after the last comes after each
 pub behind_each : (changes : List Change) (change : Change) → AllPairs PrecedesChange changes
     → option_map_or (λ earlier. precedes_change earlier change) (slice_get changes (length changes - 1)) true ≡ true
     → All (λ c. PrecedesChange c change) changes
@@ -101,7 +101,7 @@ passes_within c is =
     (loss_passes c.ppm is.values.loss)
 
 -- ---- a line's three tests
--- the pipe is there, the numbers are in their ranges, and the change comes behind the last
+-- the pipe is there, the numbers are in their ranges, and the change comes after the last
 pub record Passes (pipes : ℕ) (last : Option Change) (change : Change) : Type 0 where
   pub named : change.pipe < pipes
   pub within : IsChange change

@@ -22,7 +22,7 @@ abbrev Answered : List ℕ → ℕ → ℕ → Type 0
 Answered text cores pipes =
     ((split : SplitView) × SplitsTo text cores pipes split) ⊎ ((fault : ChangesFault) × ChangesFirst text cores pipes fault)
 
--- the lines behind the head line, if they are as many as it says
+-- the lines after the head line, if they are as many as it says
 body_answered : (text : List ℕ) (cores pipes : ℕ) (head : List ℕ) (body : List (List ℕ)) (count : ℕ) → is_second text ≡ true
     → lines_of text ≡ head ∷ body → count_of cores pipes head ≡ Some count → length body ≡ pipes + count
     → changes_fault text cores pipes ≡ fault_behind_head pipes (head ∷ body) count → Answered text cores pipes

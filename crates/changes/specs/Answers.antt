@@ -6,7 +6,7 @@ use Rattle.changes.specs.declared.faults.ChangesFault.{ChangesFault}
 use Rattle.changes.specs.Changes.{change_of}
 use Rattle.changes.specs.Faults.{change_line_fault}
 
--- the change of line n, which has no fault behind `last`; or the line's fault
+-- the change of line n, which has no fault after `last`; or the line's fault
 abbrev pub ReadsChangeLine : ℕ → ℕ → Option Change → List ℕ → Result Change ChangesFault → Type 0
 ReadsChangeLine pipes n last line (Ok change) = (change_of line ≡ Some change) × (change_line_fault pipes n last line ≡ None)
 ReadsChangeLine pipes n last line (Err fault) = change_line_fault pipes n last line ≡ Some fault

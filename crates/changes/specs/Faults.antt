@@ -49,7 +49,7 @@ change_line_fault pipes n last line = option_map_or (fault_of_change pipes n las
 abbrev pub change_fault : ℕ → List (List ℕ) → List ℕ → Option ChangesFault
 change_fault pipes before line = change_line_fault pipes (pipes + 2 + length before) (last_change before) line
 
--- the first fault behind the head line, if that says so many changes
+-- the first fault after the head line, if that says so many changes
 abbrev pub fault_behind_head : ℕ → List (List ℕ) → ℕ → Option ChangesFault
 fault_behind_head pipes lines count =
     if not (length lines == 1 + pipes + count) then Some Count else first_line_fault (change_fault pipes) [] (drop (1 + pipes) lines)

@@ -9,6 +9,6 @@ pub enum ChangesFault {
     Line(u32),
     /// This line has a number out of its range.
     Range(u32),
-    /// This line doesn't come behind the line before it, by tick and then by pipe.
+    /// This line doesn't come after the line before it, by tick and then by pipe.
     Order(u32),
 }

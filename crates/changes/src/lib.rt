@@ -1,6 +1,6 @@
 //! Directory texts that also name changes of pipes' parameters: they are split into a directory text of the first version and the
 //! changes.
-//! It stands on mn_base.
+//! It depends on mn_base.
 //! Its contracts speak in `SplitsTo` (specs/Splits.antt) and `changes_fault` (specs/Faults.antt).
 #![tactic(auto)]
 

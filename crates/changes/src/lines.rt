@@ -76,8 +76,8 @@ fn are_in_range(numbers: ChangeLine) -> bool
         && is_loss(numbers.ppm)
 }
 
-/// Whether a change comes behind the last one, if there is one, by tick and then by pipe.
-fn comes_behind(change: &Change, last: Option<&Change>) -> bool
+/// Whether a change comes after the last one, if there is one, by tick and then by pipe.
+fn comes_after(change: &Change, last: Option<&Change>) -> bool
     ensures { result ≡ option_map_or (λ earlier. precedes_change earlier change.now) (option_copied last.entry) true }
 {
     match last {
@@ -89,7 +89,7 @@ fn comes_behind(change: &Change, last: Option<&Change>) -> bool
     }
 }
 
-/// The change that line `number` says, which comes behind the change `last`, if there is one.
+/// The change that line `number` says, which comes after the change `last`, if there is one.
 pub(crate) fn read_line(
     line: &[u8],
     pipes: u32,
@@ -115,7 +115,7 @@ pub(crate) fn read_line(
         queue: numbers.queue as u32,
         ppm: numbers.ppm as u32,
     };
-    if !comes_behind(&change, last) {
+    if !comes_after(&change, last) {
         return Err(ChangesFault::Order(number));
     }
     Ok(change)

@@ -29,7 +29,7 @@ const SECOND_MARK: &[u8] = b"modelnet-directory 2 ";
 /// ```
 ///
 /// K and P are the cores and the pipes of the run, and C is at most `CHANGES_MAX`. The lines of pipes aren't looked at: they
-/// come back, each with a line feed, behind the head line of the first version. Ticks are at most `CHANGE_TICK_MAX`, and the other
+/// come back, each with a line feed, after the head line of the first version. Ticks are at most `CHANGE_TICK_MAX`, and the other
 /// numbers in the ranges of a link's. The changes rise strictly by tick and then by pipe. The last line may lack its line feed.
 /// Every text that doesn't begin with `modelnet-directory 2 ` comes back as it is, without changes.
 ///
@@ -114,7 +114,7 @@ fn skip_lines(text: &[u8], count: usize) -> &[u8]
     rest
 }
 
-/// The changes that lines say, which stand behind the lines of so many pipes.
+/// The changes that lines say, which stand after the lines of so many pipes.
 fn read_lines(alloc: Global, text: &[u8], pipes: u32) -> Result<Vec<Change>, Refusal<ChangesFault>>
     requires few_pipes { pipes ≤ PIPES_MAX }
     requires few { length (lines_of text.now) ≤ CHANGES_MAX }

@@ -6,7 +6,7 @@ use Rattle.mn_base.specs.Among.{Among}
 use Rattle.mn_base.proofs.Members.{Among-append, Among-append-left, Among-append-right, Among-from-map, Among-from-filter, Among-index, SplitAt, split_at}
 use Rattle.parcel.proofs.InOrder.{before-rest, rest-ordered}
 
--- each member differs from all behind it
+-- each member differs from all after it
 abbrev pub AllDiffer : {X : Type 0} → List X → Type 0
 AllDiffer [] = Unit {0}
 AllDiffer {X} (x ∷ xs) = ((y : X) → Among y xs → x ≢ y) × AllDiffer xs
@@ -38,7 +38,7 @@ differ-filter {X} p (x ∷ xs) d = go (p x) (differ-filter p xs d.1)
     go true rest = ((λ y a. d.0 y (Among-from-filter p y xs a).0), rest)
     go false rest = rest
 
--- one more that isn't among them, behind them
+-- one more that isn't among them, after them
 pub differ-push : {X : Type 0} (xs : List X) (y : X) → AllDiffer xs → (Among y xs → ⊥) → AllDiffer (xs ++ y ∷ [])
 differ-push [] y d fresh = ((λ z a. absurd a), tt)
 differ-push {X} (x ∷ xs) y d fresh = (head, differ-push xs y d.1 (λ a. fresh (inr a)))

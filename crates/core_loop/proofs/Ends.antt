@@ -75,7 +75,7 @@ begins w is taken r start s all none = go (cut-start w.setup is w.counts.windows
         cut : IsCut w.setup w.number w.counts.windows c.0 c.1
         cut = c.2 w.number
 
--- at its end the journal is cut behind it
+-- at its end the journal is cut after it
 end-cut : (w : WorkView) (h : HasRun w) → IsCut w.setup w.number (w.counts.windows + 1) h.runs.front h.runs.rest
 end-cut w h = record {
   split = h.runs.split.whole;

@@ -10,12 +10,12 @@ filter-none p [] none = refl
 filter-none {X} p (x ∷ xs) none =
     ap (λ (b : Bool). cond b (x ∷ filter p xs) (filter p xs)) (none x (inl refl)) ∙ filter-none p xs (λ y a. none y (inr a))
 
--- items that aren't kept, behind the others, change nothing
+-- items that aren't kept, after the others, change nothing
 pub filter-skip : {X : Type 0} (p : X → Bool) (xs ys : List X) → ((y : X) → Among y ys → p y ≡ false) → filter p (xs ++ ys) ≡ filter p xs
 filter-skip {X} p xs ys none =
     filter-append p xs ys ∙ ap (λ (l : List X). filter p xs ++ l) (filter-none p ys none) ∙ append-nil (filter p xs)
 
--- one that is kept comes behind the others
+-- one that is kept comes after the others
 pub filter-last : {X : Type 0} (p : X → Bool) (xs : List X) (y : X) → p y ≡ true → filter p (xs ++ y ∷ []) ≡ filter p xs ++ y ∷ []
 filter-last {X} p xs y kept =
     filter-append p xs (y ∷ [])

@@ -15,7 +15,8 @@ use Rattle.journal.specs.IsPipe.{SetupPipeView, IsPipe}
 use Rattle.parcel.specs.declared.counts.PipeCounts.{PipeCounts}
 use Rattle.parcel.specs.Owners.{owner_of, own_pipes}
 use Rattle.parcel.specs.Counts.{has_lost, has_found_full, visit_count, counts_of}
-use Rattle.core_loop.specs.Work.{OwnPipesView, HaveRun, counted}
+use Rattle.core_loop.specs.Work.{OwnPipesView, HaveRun}
+use Rattle.parcel.specs.Counts.{counted}
 use Rattle.mn_base.proofs.Members.{Among-filter, Among-from-filter}
 use Rattle.journal.proofs.Packets.{among-get}
 use Rattle.core_loop.proofs.Kept.{filter-skip, filter-last}

@@ -12,7 +12,8 @@ use Rattle.parcel.specs.declared.counts.PipeCounts.{PipeCounts}
 use Rattle.parcel.specs.Owners.{own_pipes}
 use Rattle.parcel.specs.Counts.{counts_of}
 use Rattle.journal.proofs.VisitsTo.{Decided, made, decided-visit, decided-pipe}
-use Rattle.core_loop.specs.Work.{OwnPipesView, HaveRun, AreIndexed, ComesTo, IsBelow, counted}
+use Rattle.core_loop.specs.Work.{OwnPipesView, HaveRun, AreIndexed, ComesTo, IsBelow}
+use Rattle.parcel.specs.Counts.{counted}
 use Rattle.core_loop.proofs.OwnRuns.{own-index, have_run-push}
 use Rattle.core_loop.proofs.Counting.{counts-below}
 

@@ -192,12 +192,6 @@ pub record IsBelow (c : PipeCounts) (most : ℕ) : Type 0 where
   pub lost : c.lost < most
   pub full : c.full < most
 
--- one visit more, with this step
-abbrev pub counted : PipeCounts → Step → PipeCounts
-counted c Lost = record c { lost = c.lost + 1 }
-counted c Full = record c { full = c.full + 1 }
-counted c (Pass exit) = record c { passed = c.passed + 1 }
-
 -- ---- what is noted
 
 -- one note more is to be told

@@ -51,7 +51,7 @@ impl Entrants {
         self.store.len()
     }
 
-    /// HaveSettled a packet whose payload is held. One that is dropped gives its payload up.
+    /// Settles a packet whose payload is held. One that is dropped gives its payload up.
     pub(crate) fn settle(&mut self, packet: u32, fate: Fate)
         requires { IsSome (map.get self.old.store.held packet) }
         ensures { Settling self.old packet fate self.new }

@@ -1,7 +1,7 @@
 //! One core of an emulation: it owns some of the pipes, keeps the payloads of the packets that enter there, runs its visits window by
 //! window, and trades parcels with the other cores over any ports.
 //!
-//! It stands on parcel, payload_store, deadline_heap, journal, pipe and mn_base. Its contracts speak of `CoreView`
+//! It depends on parcel, payload_store, deadline_heap, journal, pipe and mn_base. Its contracts speak of `CoreView`
 //! (specs/CoreView.antt), of what a core has between its turns, `CoreStands` (specs/WorldState.antt), and of turns (specs/Turns.antt).
 #![tactic(auto)]
 

@@ -3,7 +3,8 @@ ghost use Rattle.mn_base.specs.declared.limits.TheConstants.{PACKETS_MAX};
 ghost use Rattle.journal.specs.declared.visit.Visit.{Visit};
 ghost use Rattle.journal.specs.SetupView.{packet_of};
 ghost use Rattle.journal.specs.Steps.{visit_of};
-ghost use Rattle.core_loop.specs.Work.{HaveRun, ComesTo, IsBelow, counted};
+ghost use Rattle.core_loop.specs.Work.{HaveRun, ComesTo, IsBelow};
+ghost use Rattle.parcel.specs.Counts.{counted};
 
 use journal::steps::{SetupPipe, idle_pipes};
 use journal::{PacketPlan, Setup};

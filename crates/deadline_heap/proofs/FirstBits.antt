@@ -21,7 +21,7 @@ shifted n f j past = let at : j ≡ f + (j - f) = omega arith in ap (bit_at n) a
 pub clear_word : (n f : ℕ) → n / 2 ^ f ≡ 0 → IsClear (bit_at n) f 64
 clear_word n f none j past within = shifted n f j past ∙ ap (λ (q : ℕ). bit_at q (j - f)) none ∙ bit_at-zero (j - f)
 
--- else the zeros behind it lead to the first
+-- else the zeros after it lead to the first
 pub first_set_of_word : (n f : ℕ) → n < 2 ^ 64 → 0 < n / 2 ^ f → IsFirstSet (bit_at n) f 64 (f + trailing_zeros w64 (n / 2 ^ f))
 first_set_of_word n f fits some =
     let rest : ℕ = n / 2 ^ f in

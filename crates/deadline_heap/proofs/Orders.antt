@@ -65,7 +65,7 @@ pub placed-first : (due : Due) (xs : List Due) → ((x : Due) → Among x xs →
 placed-first due [] leads = refl
 placed-first due (x ∷ xs) leads = ap (λ (b : Bool). cond b (due ∷ x ∷ xs) (x ∷ placed due xs)) (is_before-from due x (leads x (inl refl)))
 
--- it is put behind a front that it isn't earlier than
+-- it is put after a front that it isn't earlier than
 pub placed-past : (due : Due) (front rest : List Due) → ((x : Due) → Among x front → Before due x → ⊥)
     → placed due (front ++ rest) ≡ front ++ placed due rest
 placed-past due [] rest behind = refl

@@ -8,7 +8,7 @@ use Rattle.mn_base.specs.Canonical.{Before, is_before}
 abbrev pub HasNoneOf : ℕ → List Due → Type 0
 HasNoneOf packet visits = (other : Due) → Among other visits → other.packet ≢ packet
 
--- each visit is earlier than all behind it, and of each packet there is one at most
+-- each visit is earlier than all after it, and of each packet there is one at most
 abbrev pub IsCanonical : List Due → Type 0
 IsCanonical [] = Unit {0}
 IsCanonical (x ∷ rest) = ((other : Due) → Among other rest → Before x other) × HasNoneOf x.packet rest × IsCanonical rest

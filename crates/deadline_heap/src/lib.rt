@@ -1,5 +1,5 @@
 //! The visits that are due at one core, first the earliest: a timing wheel for the ticks ahead, and an ordered map for the others.
-//! It stands on mn_base.
+//! It depends on mn_base.
 //! Its contracts speak in one list in canonical order (specs/Canonical.antt) and in no slot of the wheel.
 #![tactic(auto)]
 

@@ -35,7 +35,7 @@ impl Slot {
         self.hops.is_empty()
     }
 
-    /// Lends nothing: the pair of the least packet.
+    /// The pair of the least packet.
     pub(crate) fn first(&self) -> Option<(u32, u32)>
         ensures { result ≡ slice_get self.now 0 }
     {

@@ -18,7 +18,7 @@ arc_is_among nodes l is = record { from = is.leaves; to = is.enters; weight = om
 pub arcs_are_among : (nodes : ℕ) (links : List Link) → All (IsLink nodes) links → All (IsArcAmong nodes) (arcs_of links)
 arcs_are_among nodes links all = All-map (IsArcAmong nodes) arc_of links (λ i d within. arc_is_among nodes (get_or links i d) (all i d within))
 
--- a pair more behind two lists that agree
+-- a pair more after two lists that agree
 pub AllZip-push : {A B : Type 0} (R : A → B → Type 0) (xs : List A) (ys : List B) (x : A) (y : B) → AllZip R xs ys → R x y
     → AllZip R (xs ++ x ∷ []) (ys ++ y ∷ [])
 AllZip-push R [] [] x y all here = (here, tt)

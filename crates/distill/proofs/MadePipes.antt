@@ -1,4 +1,4 @@
--- The pipes that are made of parts: the kept ones, and behind them the mesh.
+-- The pipes that are made of parts: the kept ones, and after them the mesh.
 use Rattle.std.proofs.Common.{◌≡◌, ℕ, suc, ◌+◌, ◌<◌, List, [], ◌∷◌, ◌++◌, length, take, drop, get_or, All, refl, sym, ap, subst, ◌∙◌, arith, length-append}
 use Rattle.std.specs.List.{AllZip}
 use Rattle.std.proofs.lemmas.List.{length-map}
@@ -32,7 +32,7 @@ kept_len : {tick_ns : ℕ} {links : List Link} {parts : PartsView} {kept mesh pi
 kept_len {tick_ns} {links} {parts} {kept} made = sym (length-map parts.kept (link_at links))
     ∙ length-AllZip (IsKept tick_ns) (links_at links parts.kept) kept made.kept_are
 
--- so the kept pipes are the front, and the mesh is what is behind them
+-- so the kept pipes are the front, and the mesh is what is after them
 pub are_pipes : {tick_ns : ℕ} {links : List Link} {parts : PartsView} {kept mesh pipes : List DistilledPipe}
     → AreMade tick_ns links parts kept mesh pipes → ArePipesOfParts tick_ns links parts pipes
 are_pipes {tick_ns} {links} {parts} {kept} {mesh} {pipes} made =

@@ -47,7 +47,7 @@ behind_wider l m narrow links less f = record {
   as_wide = f.as_wide;
 }
 
--- a link behind the first that has no less
+-- a link after the first that has no less
 before_as_wide : (l m narrow : Link) (links : List Link) → l.bps ≤ m.bps → IsFirstOfLeast (l ∷ links) narrow → IsFirstOfLeast (l ∷ m ∷ links) narrow
 before_as_wide l m narrow links no_less f = go f.front f.is f.wider
   where

@@ -22,7 +22,7 @@ pub record DistilledView : Type 0 where
 abbrev pub IsKept : ℕ → Link → DistilledPipe → Type 0
 IsKept tick_ns link pipe = StandsFor tick_ns link.from link.to (link ∷ []) pipe
 
--- the pipes of parts: the kept links in their order, and behind them the mesh
+-- the pipes of parts: the kept links in their order, and after them the mesh
 pub record ArePipesOfParts (tick_ns : ℕ) (links : List Link) (parts : PartsView) (pipes : List DistilledPipe) : Type 0 where
   pub kept : AllZip (IsKept tick_ns) (links_at links parts.kept) (take (length parts.kept) pipes)
   pub mesh : IsMesh tick_ns (links_at links parts.middle) parts.border (drop (length parts.kept) pipes)

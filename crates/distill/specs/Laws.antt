@@ -23,7 +23,7 @@ abbrev pub PipesAreCounted : Type 0
 PipesAreCounted = (t : TopologyView) (mode : Mode) (tick_ns n : ℕ) (d : DistilledView)
     → IsDistilled t mode tick_ns d → HasPipeCount t mode n → length d.pipes ≡ n
 
--- all links before it have more bandwidth, and none behind it has less
+-- all links before it have more bandwidth, and none after it has less
 pub record IsFirstOfLeast (links : List Link) (narrow : Link) : Type 0 where
   pub front : List Link
   pub rest : List Link

@@ -27,7 +27,7 @@ use walk_out::{Parts, hop, walk_in, walk_out};
 /// (by latency, then by number of links, then by link numbers). It has the least bandwidth along the walk and the queue limit of the
 /// first link that has it, the sum of the latencies, rounded up to ticks after the sum, and the keeps combined.
 ///
-/// `TooManyPipes` comes if and only if there are more than 262,144 of them; pairs are counted before memory for pipes is taken.
+/// `TooManyPipes` comes if and only if there are more than `PIPES_MAX` of them; pairs are counted before memory for pipes is taken.
 pub fn distill(
     alloc: Global,
     topology: &Topology,

@@ -19,7 +19,7 @@ pub fn one_pipe_count()
     ensures length { PipesAreCounted }
 {}
 
-/// The link whose bandwidth and queue limit a pipe has is the first of least bandwidth: all before it have more, and none behind it
+/// The link whose bandwidth and queue limit a pipe has is the first of least bandwidth: all before it have more, and none after it
 /// has less.
 pub fn narrowest_is_first()
     ensures { NarrowestIsFirst }

@@ -1,6 +1,6 @@
 //! Distilled topologies: the links that a mode keeps, and a mesh of pipes in place of the middle.
 //!
-//! It stands on routes, frontier, walk_out, topo and mn_base. Its contracts speak in `IsDistilled` (specs/Distilled.antt) and
+//! It depends on routes, frontier, walk_out, topo and mn_base. Its contracts speak in `IsDistilled` (specs/Distilled.antt) and
 //! `HasPipeCount` (specs/PipeCount.antt); that least latencies stay is a law (specs/Latency.antt).
 #![tactic(auto)]
 

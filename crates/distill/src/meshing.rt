@@ -144,7 +144,7 @@ fn pipe_from(
     Ok(Some(pipe_along(&links, source, target, tick_ns)))
 }
 
-/// Adds a pipe behind a list if there is one.
+/// Adds a pipe at the end of a list if there is one.
 fn push_some(row: &mut Vec<DistilledPipe>, pipe: Option<DistilledPipe>) -> Result<(), NoMemory>
     ensures { OnOk result (row.new.items ≡ row.old.items ++ option_to_list pipe) }
 {

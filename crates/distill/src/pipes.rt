@@ -13,7 +13,7 @@ pub struct DistilledPipe {
     pub links: u32,
 }
 
-/// A topology has more than 262,144 pipes in a mode.
+/// A topology has more than `PIPES_MAX` pipes in a mode.
 #[derive(Clone, Copy, Debug, PartialEq, Eq)]
 pub struct TooManyPipes {
     /// How many it has.

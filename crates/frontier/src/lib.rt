@@ -1,6 +1,6 @@
 //! Frontiers: the edge nodes of a topology, and step by step the nodes beside them.
 //!
-//! It stands on topo and mn_base. Its contracts speak in `frontiers_of` (specs/Frontiers.antt) and in sets of nodes
+//! It depends on topo and mn_base. Its contracts speak in `frontiers_of` (specs/Frontiers.antt) and in sets of nodes
 //! (specs/NodeSets.antt).
 #![tactic(auto)]
 

@@ -83,8 +83,8 @@ impl NodeSet {
         Ok(beside)
     }
 
-    #[tactic(auto, using(crate::proofs::Numbers::filter_range_more))]
     /// The nodes of this set that aren't in the other, in number order.
+    #[tactic(auto, using(crate::proofs::Numbers::filter_range_more))]
     pub(crate) fn members_outside(
         &self,
         alloc: Global,
@@ -117,7 +117,7 @@ impl NodeSet {
     }
 }
 
-/// Adds a node behind a list if it is to be added.
+/// Adds a node at the end of a list if it is to be added.
 pub fn push_if(list: &mut Vec<u32>, node: u32, is_added: bool) -> Result<(), NoMemory>
     ensures { OnOk result (list.new.items ≡ list.old.items ++ (if is_added then node ∷ [] else [])) }
 {

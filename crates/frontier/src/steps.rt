@@ -31,8 +31,8 @@ pub fn frontiers(alloc: Global, topology: &Topology, w: u32) -> Result<Vec<Vec<u
     Ok(frontiers)
 }
 
-#[tactic(auto, using(crate::proofs::Numbers::filter_range_more))]
 /// The edge nodes of a topology, which are those with an address, in number order.
+#[tactic(auto, using(crate::proofs::Numbers::filter_range_more))]
 pub fn edge_nodes(alloc: Global, topology: &Topology) -> Result<Vec<u32>, NoMemory>
     ensures nodes { IfOk result (λ v. v.items ≡ edge_nodes_of topology.now.nodes) }
     ensures below { IfOk result (λ v. All (λ n. n < length topology.now.nodes) v.items) }

@@ -11,7 +11,7 @@ use Rattle.gate_box.specs.declared.rule.Note.{Note}
 use Rattle.gate_box.specs.declared.rule.TheConstants.{GATE, WORDS}
 use Rattle.gate_box.specs.Gate.{Phase, free, writing, full, reading, code, sent, taken, writes, reads, Lies, Fits, LaneOk, IsSeated, both_roles, sender_note, receiver_note, holding, passed, seized, freed, missed, Claims, Posts, TakesItem, Clears}
 
--- what stands behind a list, by its place
+-- what stands after a list, by its place
 pub at_end : {A : Type 0} (l : List A) (a b : A) (j : ℕ) → get_elem? (l ++ a ∷ []) j ≡ maybe.some b
     → (get_elem? l j ≡ maybe.some b) ⊎ ((j ≡ length l) × (a ≡ b))
 at_end [] a b zero e = inr (refl, maybe.some-injective a b e)

@@ -1,5 +1,5 @@
 //! One lane between two threads: items go from its sender to its receiver, one at a time, in order, each once.
-//! It stands on mn_base and on the kit's atomic_table.
+//! It depends on mn_base and on the kit's atomic_table.
 //! Its contracts speak of what each end knows (specs/EndView.antt); the rule of the word between them is `LaneOk` (specs/Gate.antt).
 #![tactic(auto)]
 

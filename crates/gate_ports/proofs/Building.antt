@@ -43,7 +43,7 @@ module _ {X : Type 0} (P : ℕ → X → Type 0) (xs : List X) where
           subst (λ (z : X). P j z) (sym (get_or-set_other xs i j y d ne)) (before j d l wide)
       go j d below within (inr (inr l)) = absurd (omega arith)
 
-  -- those behind it stay as they are
+  -- those after it stay as they are
   pub from_set : (i : ℕ) (y : X) → EachFrom i P xs → EachFrom (i + 1) P (set xs i y)
   from_set i y from = λ j d behind within.
       let ne : j ≢ i = omega arith in

@@ -1,6 +1,6 @@
 //! The ports of a core between threads: a lane to and from each other core.
 //!
-//! It stands on parcel, gate_box, journal and mn_base. Its contracts speak of `GatePortsView` (specs/GatePortsView.antt).
+//! It depends on parcel, gate_box, journal and mn_base. Its contracts speak of `GatePortsView` (specs/GatePortsView.antt).
 #![tactic(auto)]
 
 mod gate_ports;

@@ -12,7 +12,7 @@ use mn_base::NoMemory;
 use std::alloc::Global;
 use std::mem;
 
-/// Room for so many more ends stands behind the senders of each core: 128 bytes that are never used, since these rows lie one behind
+/// Room for so many more ends stands after the senders of each core: 128 bytes that are never used, since these rows lie one after
 /// the other. So no two cores write to one cache line.
 const SPARE: usize = 8;
 

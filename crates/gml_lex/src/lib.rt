@@ -1,5 +1,5 @@
 //! The tokens of a GML text, or the first place from which its bytes are neither blank, comment nor token.
-//! It stands on mn_base.
+//! It depends on mn_base.
 //! Its contracts speak in the pieces of specs/Pieces.antt and in the tokens and the fault of specs/Tokens.antt.
 #![tactic(auto)]
 

@@ -52,7 +52,7 @@ impl fmt::Display for GmlFault {
     }
 }
 
-/// The fault of a topology, to be told.
+/// The fault of a topology, to be reported.
 #[derive(Drop)]
 struct TopoText(TopoFault);
 

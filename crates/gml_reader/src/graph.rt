@@ -36,7 +36,7 @@ pub(crate) fn graph_in<'t>(text: &[u8], tokens: &'t [Token]) -> Option<&'t [Toke
     None
 }
 
-/// Whether edges go one way alone: 0 or 1, and 0 where none is told.
+/// Whether edges go one way alone: 0 or 1, and 0 where none is given.
 #[tactic(auto, unfolding(crate::specs::Reading::directed_fault, crate::specs::Reading::is_directed))]
 fn directed(text: &[u8], graph: &[Token]) -> Result<bool, GmlFault>
     ensures { (t : Pairs) → IsListIn (length text.now) t → graph.now ≡ spelled t

@@ -1,5 +1,5 @@
 //! Reads a GML text to a topology, or tells its first fault with its place.
-//! It stands on gml_lex, topo and mn_base.
+//! It depends on gml_lex, topo and mn_base.
 //! Its contract speaks in the texts that read to a topology and in the first fault, of specs/Texts.antt.
 #![tactic(auto)]
 

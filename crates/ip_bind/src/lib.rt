@@ -1,5 +1,5 @@
 //! The addresses of captured frames, and the nodes of a topology by their addresses.
-//! It stands on topo and mn_base.
+//! It depends on topo and mn_base.
 //! Its contracts speak in `addresses_of` (specs/Frames.antt) and `node_with_address` (specs/Books.antt).
 #![tactic(auto)]
 

@@ -21,7 +21,7 @@ use Rattle.journal.proofs.Orderly.{IsGrowing, Origin, origin, orderly}
 abbrev pub of_packet : ℕ → List Visit → List Visit
 of_packet n J = filter (λ v. v.packet == n) J
 
--- each visit is to an earlier hop than those behind it
+-- each visit is to an earlier hop than those after it
 abbrev HopsRise : List Visit → Type 0
 HopsRise [] = Unit {0}
 HopsRise (v ∷ J) = ((w : Visit) → Among w J → v.hop < w.hop) × HopsRise J

@@ -47,7 +47,7 @@ module _ (S : SetupView) (is : IsSetup S) where
   visited : (x : Due) → Among x (dues S (journal_of S)) → (v : Visit) × Among v (journal_of S) × (due_of v ≡ x)
   visited x a = Among-from-map due_of x (journal_of S) ((meets S is).complete x a)
 
-  -- behind the visit that ends a packet's way no hop is visited
+  -- after the visit that ends a packet's way no hop is visited
   none_behind : (v w : Visit) → Among v (journal_of S) → next_hop S v ≡ None → Among w (journal_of S) → w.packet ≡ v.packet → v.hop < w.hop
       → ⊥
   none_behind v w a last b p l =

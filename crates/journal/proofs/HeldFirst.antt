@@ -116,7 +116,7 @@ entered-rising S is n held p w h here first rising =
     all_pairs_push (λ (u : DueVisit) v. u.due.packet < v.due.packet) held w rising
     (λ k d within. entered-below S is n held p w h here first (slice_index_or held k d) (Among-index held k d within))
 
--- the visit that is put behind the others
+-- the visit that is put after the others
 pub pushed-among : (held : List DueVisit) (w other : DueVisit) → Among other (held ++ w ∷ []) ↔ ((w ≡ other) ⊎ Among other held)
 pushed-among held w other = (
   λ a. ⊎_elim (λ b. inr b) (λ e. inl e) (Among-push other held w a),

@@ -137,7 +137,7 @@ once-parts : {firsts : List DueVisit} {next : ℕ} {rs : List (Reverse HeapEntry
     → many_of n (drop next firsts) + many_of n (later_visits rs) ≤ 1
 once-parts {firsts} {next} {rs} h n = omega (arith, h.once n, sum_by-append (of_packet n) (drop next firsts) (later_visits rs))
 
--- behind a first visit come those behind it
+-- after a first visit come those after it
 rising-behind : (firsts : List DueVisit) (next : ℕ) (d w : DueVisit) → AllPairs (λ v w. Before v.due w.due) firsts
     → Among w (drop (suc next) firsts)
     → Before (get_or firsts next d).due w.due

@@ -27,7 +27,7 @@ changes-none S lists is = record {
       ap (λ (ls : List (List (ℕ × PipeParams))). get_or ls pipe d) is ∙ get_or-replicate (length S.pipes) pipe [] d inside;
 }
 
--- a change is put behind those of its own pipe, and no other pipe has it
+-- a change is put after those of its own pipe, and no other pipe has it
 pub changes-more : (S : SetupView) (n : ℕ) (lists more : List (List (ℕ × PipeParams))) (c d : PipeChange) (own : List (ℕ × PipeParams))
     → AreChangesOf (front_of S n) lists → n < length S.changes → c ≡ get_or S.changes n d → c.pipe < length lists
     → own ≡ get_or lists c.pipe own → more ≡ set lists c.pipe (own ++ timed c ∷ [])
@@ -123,7 +123,7 @@ taken-own lists number taken there own same read within is =
     ap (λ (list : Changes). list.items) (same ∙ read)
     ∙ sym (get_or-map (λ (list : Changes). list.items) lists number there [] within) ∙ is
 
--- and those of the pipes behind stay
+-- and those of the pipes after stay
 pub others-stay : (lists : List Changes) (number pipe : ℕ) (new : Changes) (d : List (ℕ × PipeParams)) → pipe ≢ number
     → get_or (items_of (set lists number new)) pipe d ≡ get_or (items_of lists) pipe d
 others-stay lists number pipe new d other =

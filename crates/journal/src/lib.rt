@@ -1,6 +1,6 @@
 //! Setups, the one list of all visits of their packets to pipes (the journal), and what becomes of each packet.
 //!
-//! It stands on pipe, loss_words and mn_base. Its contracts speak of `IsJournal` (specs/IsJournal.antt), `journal_of`
+//! It depends on pipe, loss_words and mn_base. Its contracts speak of `IsJournal` (specs/IsJournal.antt), `journal_of`
 //! (specs/Journal.antt) and `fate_of` (specs/Fates.antt).
 #![tactic(auto)]
 

@@ -52,7 +52,7 @@ fault_behind line lines text rest is (Short n) d = (
   },
 )
 
--- behind some lines that stand in both, the next doesn't open the text
+-- after some lines that stand in both, the next doesn't open the text
 pub fault_here : (lines before ahead : List (List ℕ)) (line text rest : List ℕ) (fault : JournalFault)
     → lines ≡ before ++ line ∷ ahead → text ≡ concat before ++ rest → PartsAt line (length before) rest fault → FirstFault lines text fault
 fault_here lines before ahead line text rest (Line n) lines_are text_is parts = record {
@@ -74,7 +74,7 @@ fault_here lines before ahead line text rest (Short n) lines_are text_is parts =
   number = parts.1;
 }
 
--- the text goes on behind all lines
+-- the text goes on after all lines
 pub fault_at_end : (lines : List (List ℕ)) (text rest : List ℕ) → text ≡ concat lines ++ rest → rest ≢ []
     → FirstFault lines text (Line (length lines + 1))
 fault_at_end lines text rest is goes_on = record {

@@ -1,5 +1,5 @@
 //! The text of a journal: printed, and checked line by line against the journal of a setup.
-//! It stands on journal, pipe and mn_base.
+//! It depends on journal, pipe and mn_base.
 //! Its contracts speak in `journal_out` (specs/Texts.antt) and `JournalFirst` (specs/Faults.antt).
 #![tactic(auto)]
 

@@ -16,6 +16,6 @@ key_of_seed seed = key_of (seed_bytes seed)
 unfoldable pub loss_word : ℕ → ℕ → ℕ → ℕ
 loss_word seed pipe place = word_at 4 (key_of_seed seed) pipe place
 
--- the early word of a pipe at a place: the same, in a stream behind those of all loss words
+-- the early word of a pipe at a place: the same, in a stream after those of all loss words
 unfoldable pub early_word : ℕ → ℕ → ℕ → ℕ
 early_word seed pipe place = word_at 4 (key_of_seed seed) (2 ^ 32 + pipe) place

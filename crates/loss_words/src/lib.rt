@@ -1,5 +1,5 @@
 //! The numbered words by which packets are lost: one for each seed, pipe and place.
-//! It stands on the kit's rand_chacha, called through the traits of rand_core.
+//! It depends on the kit's rand_chacha, called through the traits of rand_core.
 //! Its contracts speak of `loss_word` (specs/Word.antt).
 #![tactic(auto)]
 

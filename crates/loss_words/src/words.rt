@@ -53,7 +53,7 @@ impl Words {
     }
 
     /// The early word of a pipe at a place, whatever was asked before: the word by which a queue that drops early decides. Its
-    /// stream is behind those of all pipes' loss words.
+    /// stream is after those of all pipes' loss words.
     #[tactic(auto, unfolding(crate::specs::Word::early_word))]
     pub fn early_word(&mut self, pipe: u32, place: u32) -> u32
         ensures word { result ≡ early_word self.old pipe place }

@@ -20,7 +20,7 @@ use Rattle.parcel.specs.Counts.{counts_of}
 use Rattle.payload_store.specs.StoreView.{StoreView}
 use Rattle.journal.proofs.Ends.{fates_hold}
 use Rattle.journal.proofs.Orderly.{IsGrowing, one_packet}
-use Rattle.settle.specs.Counted.{counted}
+use Rattle.parcel.specs.Counts.{counted}
 use Rattle.core_loop.specs.Stocked.{Enters}
 use Rattle.core_loop.specs.WorldState.{AreSettled}
 use Rattle.core_loop.specs.Work.{Settling}

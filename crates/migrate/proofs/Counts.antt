@@ -10,7 +10,7 @@ use Rattle.pipe.specs.Finishes.{has_passed}
 use Rattle.journal.specs.declared.visit.Visit.{Visit}
 use Rattle.parcel.specs.declared.counts.PipeCounts.{PipeCounts}
 use Rattle.parcel.specs.Counts.{has_lost, has_found_full, visit_count, counts_of}
-use Rattle.settle.specs.Counted.{counted}
+use Rattle.parcel.specs.Counts.{counted}
 use Rattle.core_loop.proofs.Kept.{filter-skip, filter-last}
 
 counts_equal : {pipe p q l m f g : ℕ} → p ≡ q → l ≡ m → f ≡ g

@@ -53,7 +53,7 @@ module _ (S : SetupView) (is : IsSetup S) where
       let t = Among-from-filter (λ (u : Visit). nat_lt u.tick end) v (journal_of S) a in
       (t.0, ltb-true v.tick end t.1)
 
-  -- all of a journal's front that is behind it comes of the front, and is behind what is pending
+  -- all of a journal's front that is after it comes of the front, and is after what is pending
   module _ (J : List Visit) (g : IsGrowing S J) where
     pub rest-of : (rest : List Visit) × (journal_of S ≡ J ++ rest)
     rest-of = grows_to_journal S is J g
@@ -61,7 +61,7 @@ module _ (S : SetupView) (is : IsSetup S) where
     pub front-among : (v : Visit) → Among v J → Among v (journal_of S)
     front-among v m = subst (Among v) (sym rest-of.1) (Among-append-left v J rest-of.0 m)
 
-    -- the visit behind the front is pending
+    -- the visit after the front is pending
     next-pending : (r : Visit) (rest : List Visit) → journal_of S ≡ J ++ r ∷ rest → Among (due_of r) (pending S J)
     next-pending r rest e = pending_from scheme J (due_of r) is-due (undone (is_done_by scheme J (due_of r)) refl)
       where
@@ -92,7 +92,7 @@ module _ (S : SetupView) (is : IsSetup S) where
             (subst (λ (u : Visit). Before (due_of u) (due_of r)) same
             (rises-across scheme J (r ∷ rest) q.visit r rises q.among (inl refl))))
 
-    -- visits behind the front are no earlier than all that is pending
+    -- visits after the front are no earlier than all that is pending
     pub rest-late : (bound : ℕ) → ((x : Due) → Among x (pending S J) → bound ≤ x.tick) → (rest : List Visit) → journal_of S ≡ J ++ rest
         → (v : Visit) → Among v rest → bound ≤ v.tick
     rest-late bound late [] e v m = absurd m

@@ -1,4 +1,4 @@
--- Due visits of which the first is in sight, and the others are behind it in a heap.
+-- Due visits of which the first is in sight, and the others are after it in a heap.
 use Rattle.std.proofs.Common.{◌≡◌, ◌⊎◌, inl, inr, ⊎_elim, ◌^◌, ◌-◌, ◌<◌, ◌≤◌, List, [], ◌∷◌, Option, Some, None, refl, sym, ap, ◌∙◌, subst, arith}
 use Rattle.std.specs.Prelude.{◌↔◌, IfSome, IfNone}
 use Rattle.std.specs.List.{cons_option}
@@ -29,7 +29,7 @@ module _ (first : Option Due) (later : List Due) (s : AreInSight first later) wh
   module _ (next : Option Due) (rest : List Due)
       (none : IfNone next ((rest ≡ later) × ((x : Due) → Among x later → 2 ^ 64 - 1 ≤ x.tick)))
       (some : IfSome next (λ due. (later ≡ due ∷ rest) × (due.tick < 2 ^ 64 - 1))) where
-    -- what is left is what was behind the first
+    -- what is left is what was after the first
     pub popped-rest : cons_option next rest ≡ later
     popped-rest = go next none some
       where
@@ -80,7 +80,7 @@ module _ (first : Due) (later : List Due) (s : AreInSight (Some first) later) (d
       ticks x (inl same) = subst (λ (y : Due). y.tick < 2 ^ 64 - 1) same low
       ticks x (inr m) = s.ticks x ((Among-placed x first later).0 m)
 
-  -- behind it
+  -- after it
   pub behind-in-sight : (Before due first → ⊥) → AreInSight (Some first) (placed due later)
   behind-in-sight not = record {
     canonical = (leads, none, canonical-placed due later (λ x m. alone x (inr m)) s.canonical.2);
@@ -131,6 +131,6 @@ pub first-tick : (first : Option Due) (later : List Due) → AreInSight first la
 first-tick None later s = tt
 first-tick (Some d) later s = s.ticks d (inl refl)
 
--- the first one, and those behind it
+-- the first one, and those after it
 pub seen : (first : Option Due) (f : Due) (later now : List Due) → first ≡ Some f → cons_option first later ≡ now → f ∷ later ≡ now
 seen first f later now e v = ap (λ (o : Option Due). cons_option o later) (sym e) ∙ v

@@ -1,4 +1,4 @@
--- One window: from what stands before it to what stands behind it.
+-- One window: from what stands before it to what stands after it.
 use Rattle.std.proofs.Common.{◌≡◌, ◌⊎◌, inl, inr, ⊎_elim, ℕ, ◌+◌, ◌<◌, ◌≤◌, nat_lt, nat_le, ◌&&◌, Bool, true, false, List, [], ◌∷◌, ◌++◌, length, filter, slice_index, append_assoc, length-append, cond, refl, sym, ap, ◌∙◌, subst, arith}
 use Rattle.std.proofs.lemmas.Bool.{lt-ltb, le-ltb, le-leb, lt-leb, and_from, and_left, and_right, cases_lt}
 use Rattle.mn_base.specs.Among.{Among}
@@ -256,7 +256,7 @@ module _ (w : ShelvesView) (is : IsSetup w.setup) (g : IsGrowing w.setup (visits
           go [] e = absurd (subst (Among head-visit.0) (sym part-is ∙ e) first)
           go (v ∷ l) e = let n : length p.part ≡ length (v ∷ l) = ap length e in omega (arith, n)
 
-      -- and it stands behind it
+      -- and it stands after it
       pub window-stands : (windows : ℕ) (failed : Bool)
           → ShelvesStand bytes (record {
             setup = w.setup;

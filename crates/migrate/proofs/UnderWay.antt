@@ -66,7 +66,7 @@ filter-of-map {A} f core (x ∷ xs) = go (f x == core) (filter-of-map f core xs)
     go true e = ap suc e
     go false e = e
 
--- ---- a window behind those that are run
+-- ---- a window after those that are run
 
 module _ (S : SetupView) (is : IsSetup S) where
   split : (e f : ℕ) → e ≤ f → (J : List Visit) → Rises (scheme_of S) J

@@ -12,7 +12,7 @@ use Rattle.migrate.specs.ShelvesView.{ShelfView, ShelvesView}
 use Rattle.migrate.specs.Windows.{visits_before}
 use Rattle.migrate.specs.Standing.{ShelvesStand}
 
--- true of all due lists: nothing is behind a first one that isn't there, and each tick is below the greatest one
+-- true of all due lists: nothing is after a first one that isn't there, and each tick is below the greatest one
 pub record AreInSight (first : Option Due) (later : List Due) : Type 0 where
   pub canonical : IsCanonical (cons_option first later)
   pub none : first ≡ None → later ≡ []

@@ -14,7 +14,7 @@ use std::mem;
 #[derive(Drop)]
 pub(crate) struct DueList {
     first: Option<Due>,
-    /// Those behind the first one.
+    /// Those after the first one.
     later: Heap,
 }
 

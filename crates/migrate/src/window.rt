@@ -9,7 +9,8 @@ ghost use Rattle.journal.specs.Hops.{pipe_of};
 ghost use Rattle.journal.specs.Fates.{fate_of_step};
 ghost use Rattle.journal.specs.Journal.{journal_of};
 ghost use Rattle.deadline_heap.specs.Canonical.{HasNoneOf};
-ghost use Rattle.settle.specs.Counted.{counted, HasRoom};
+ghost use Rattle.parcel.specs.Counts.{counted};
+ghost use Rattle.settle.specs.Counted.{HasRoom};
 ghost use Rattle.migrate.specs.ShelvesView.{ShelfView};
 ghost use Rattle.migrate.specs.Running.{ChangesAt, PutsDue, SettlesPacket, IsHeadOf, HaveNone, HaveNoneBefore, LeadsOn, RunsOn, StaysAtRun, HasRunBefore};
 

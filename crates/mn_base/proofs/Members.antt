@@ -171,7 +171,7 @@ split_at x (y ∷ xs) (inl e) = record { front = []; rest = xs; is = ap (λ z. z
 split_at x (y ∷ xs) (inr h) =
     let s = split_at x xs h in record { front = y ∷ s.front; rest = s.rest; is = ap (λ l. y ∷ l) s.is }
 
--- a list with x pushed behind splits at x, or as the list did
+-- a list with x pushed after splits at x, or as the list did
 pub split_push : {X : Type 0} (xs : List X) (x : X) (front rest : List X) (v : X) → xs ++ x ∷ [] ≡ front ++ v ∷ rest
     → ((front ≡ xs) × (v ≡ x)) ⊎ ((end : List X) × (xs ≡ front ++ v ∷ end))
 split_push [] x [] rest v e = inl (refl, cc)

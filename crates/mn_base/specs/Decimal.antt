@@ -5,7 +5,7 @@ use Rattle.std.specs.List.{list_all}
 abbrev pub is_digit : ℕ → Bool
 is_digit b = nat_le 48 b && nat_le b 57
 
--- the value so far, with one more digit behind it
+-- the value so far, with one more digit after it
 abbrev pub with_digit : ℕ → ℕ → ℕ
 with_digit value b = value * 10 + (b - 48)
 

@@ -1,4 +1,4 @@
--- Lines that are labels with a plain decimal behind each, as `pipe 3 core 0` is of the labels `pipe ` and ` core `.
+-- Lines that are labels with a plain decimal after each, as `pipe 3 core 0` is of the labels `pipe ` and ` core `.
 use Rattle.std.specs.Prelude.{ℕ, ◌==◌, nat_eq, List, [], ◌∷◌, ◌++◌, length, drop, take_while, Option, Some, None, if◌then◌else◌, option_map, option_and_then, decimal}
 use Rattle.std.specs.List.{prefix_len, starts_with}
 use Rattle.mn_base.specs.Decimal.{is_digit, decimal_of}

@@ -12,7 +12,7 @@ abbrev pub lines_of : List ℕ → List (List ℕ)
 lines_of [] = []
 lines_of (b ∷ bs) = if b == 10 then [] ∷ lines_of bs else onto_first_line b (lines_of bs)
 
--- the text of lines, each with a line feed behind it
+-- the text of lines, each with a line feed after it
 abbrev pub text_of_lines : List (List ℕ) → List ℕ
 text_of_lines [] = []
 text_of_lines (line ∷ lines) = line ++ 10 ∷ text_of_lines lines

@@ -6,7 +6,7 @@ use std::marker::Model;
 /// A stream of draws from a number, which contracts see as its state.
 ///
 /// It is Knuth's linear congruential generator of 64 bits (MMIX), of which the upper 31 bits are taken. It makes orders
-/// and workloads that can be told by a number, and is no source of loss words.
+/// and workloads that a number stands for, and is no source of loss words.
 #[derive(Drop)]
 pub struct Draws {
     state: u64,

@@ -5,10 +5,10 @@ ghost use Rattle.mn_base.specs.Fields.{field_of};
 
 use crate::read_u64;
 
-/// The value of the plain decimal that stands behind a label at the front of a text, and what follows the decimal.
+/// The value of the plain decimal that stands after a label at the front of a text, and what follows the decimal.
 ///
-/// None where the text doesn't begin with the label, or where no decimal with a value below 2^64 stands behind it. The
-/// decimal goes as far as there are digits: behind `pipe ` the text `pipe 07 core 1` has 7, and ` core 1` follows.
+/// None where the text doesn't begin with the label, or where no decimal with a value below 2^64 stands after it. The
+/// decimal goes as far as there are digits: after `pipe ` the text `pipe 07 core 1` has 7, and ` core 1` follows.
 #[tactic(auto, unfolding(crate::specs::Fields::field_of))]
 pub fn field<'t>(text: &'t [u8], label: &str) -> Option<(u64, &'t [u8])>
     ensures value { MatchOption result (field_of label.now text.now ≡ None) (λ field. field_of label.now text.now ≡ Some (field.0, field.1.now)) }

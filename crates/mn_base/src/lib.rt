@@ -1,5 +1,5 @@
 //! What every crate of the emulator speaks in: units, limits, ranges, parameters of a pipe, bytes, refusals and causes.
-//! It stands on std alone.
+//! It depends on std alone.
 //! Its contracts speak in the formulas of specs/Units.antt, the ranges of specs/Ranges.antt and the decimals of
 //! specs/Decimal.antt.
 #![tactic(auto)]

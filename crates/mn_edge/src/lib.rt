@@ -1,5 +1,5 @@
 //! The host behind which all input and output stands: its trait, whole reads and writes, a host in memory and the real one.
-//! It stands on mn_base.
+//! It depends on mn_base.
 //! Contracts speak of a host as a function from roles to parts (Part), and of whole reads and writes by ReadsWhole and AddsWhole.
 #![tactic(auto)]
 

@@ -5,7 +5,7 @@ use Rattle.std.proofs.lemmas.Bool.{le-leb, lt-leb}
 use Rattle.std.proofs.lemmas.Grind.{common_steps}
 use Rattle.mn_words.specs.Pipes.{each_of, few_of}
 
--- what was said, and behind it what the words that are left say
+-- what was said, and after it what the words that are left say
 abbrev pub behind : {A : Type 0} → (List ℕ → Option A) → List A → List (List ℕ) → Option (List A)
 behind said all words = option_map (λ more. all ++ more) (each_of said words)
 
@@ -83,7 +83,7 @@ pub read-stop : {A : Type 0} (most : ℕ) (said : List ℕ → Option A) (all le
 read-stop most said all left next word found have front nothing =
     few-none most said all (have.read ∙ ap (behind said found) front ∙ behind-stop said found word next (sym nothing))
 
--- and so does a word behind as many as there may be
+-- and so does a word after as many as there may be
 pub read-too_many : {A : Type 0} (most : ℕ) (said : List ℕ → Option A) (all left next : List (List ℕ)) (word : List ℕ) (found : List A)
     → HaveRead said all left found → left ≡ word ∷ next → most ≤ length found → few_of most said all ≡ None
 read-too_many most said all left next word found have front full = few-many most said all above

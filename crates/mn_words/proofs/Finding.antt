@@ -2,18 +2,18 @@
 use denote.Ref.{Bor}
 use Rattle.std.proofs.Common.{◌≡◌, ◌≤◌, ◌&&◌, ◌||◌, ℕ, Bool, length, Ok, true, false, not, List, [], ◌∷◌, Option, Some, None, is_some, is_none, refl, sym, ap, subst, ◌∙◌, arith}
 use Rattle.std.specs.Option.{option_copied}
-use Rattle.mn_words.specs.Items.{Item, items_of, is_cut, TakesFirst, TakesOneItem, TakesNoItem}
+use Rattle.mn_words.specs.Items.{Item, items_of, is_cut, TakesFirstItem, TakesOneItem, TakesNoItem}
 use Rattle.mn_words.specs.Form.{Form, has_this_name, value_of, bare_words, takes, is_new, fits_before, fit, has_needed, has_bare, has_form, is_some_word}
 
 -- what was taken is the item that it is
-pub takes_nothing : (old new : List (List ℕ)) (next : Option Item) → next ≡ None → TakesFirst old new (Ok next) → TakesNoItem old false
+pub takes_nothing : (old new : List (List ℕ)) (next : Option Item) → next ≡ None → TakesFirstItem old new (Ok next) → TakesNoItem old false
 takes_nothing old new None is takes = takes
 takes_nothing old new (Some item) is takes = absurd cc
 
-pub takes_item : (old new : List (List ℕ)) (next : Option Item) (item : Item) → next ≡ Some item → TakesFirst old new (Ok next) → TakesOneItem old new item
-takes_item old new next item is takes = subst (λ n. TakesFirst old new (Ok n)) is takes
+pub takes_item : (old new : List (List ℕ)) (next : Option Item) (item : Item) → next ≡ Some item → TakesFirstItem old new (Ok next) → TakesOneItem old new item
+takes_item old new next item is takes = subst (λ n. TakesFirstItem old new (Ok n)) is takes
 
--- where an item has another name, what is found behind it is what is found
+-- where an item has another name, what is found after it is what is found
 pub passes_over : (name : List ℕ) (item : Item) (all rest : List Item) → all ≡ item ∷ rest → has_this_name name item.name ≡ false
     → value_of name all ≡ value_of name rest
 unfolding value_of

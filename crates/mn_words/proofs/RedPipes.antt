@@ -20,7 +20,7 @@ has_few word few = from (colon_parts word) few
     from (a ∷ b ∷ c ∷ []) few = refl
     from (a ∷ b ∷ c ∷ d ∷ parts) few = absurd (omega (arith, few))
 
--- four parts and none behind them
+-- four parts and none after them
 pub has_four : (word : List ℕ) {a b c d : List ℕ} (rest : Option (Bor (List ℕ))) → colon_parts word ≡ a ∷ b ∷ c ∷ d ∷ rest_parts (option_copied rest)
     → rest ≡ None → red_spec_of word ≡ None
 unfolding red_spec_of red_pipe_of_parts red_of_parts
@@ -38,7 +38,7 @@ pub has_no_base : (word : List ℕ) {a b c d : List ℕ} (rest : Option (Bor (Li
 unfolding red_spec_of red_pipe_of_parts
 has_no_base word rest base parts is none = rw (parts, sym is ∙ none) refl
 
--- and four that are one, with a colon behind them
+-- and four that are one, with a colon after them
 pub has_base : (word : List ℕ) {a b c d : List ℕ} (rest : Option (Bor (List ℕ))) (back : Bor (List ℕ)) (found : Option PipeSpec) (base : PipeSpec)
     → colon_parts word ≡ a ∷ b ∷ c ∷ d ∷ rest_parts (option_copied rest) → rest ≡ Some back → found ≡ pipe_of_parts (a ∷ b ∷ c ∷ d ∷ [])
     → found ≡ Some base → red_spec_of word ≡ red_of_parts base (colon_parts back.now)

@@ -59,7 +59,7 @@ pub record TakesNoItem (old : List (List ℕ)) (is_missing : Bool) : Type 0 wher
   pub cut : is_cut old ≡ is_missing
 
 -- what comes of taking the first item off
-abbrev pub TakesFirst : List (List ℕ) → List (List ℕ) → Result (Option Item) Cut → Type 0
-TakesFirst old new (Ok None) = TakesNoItem old false
-TakesFirst old new (Ok (Some item)) = TakesOneItem old new item
-TakesFirst old new (Err cut) = TakesNoItem old true
+abbrev pub TakesFirstItem : List (List ℕ) → List (List ℕ) → Result (Option Item) Cut → Type 0
+TakesFirstItem old new (Ok None) = TakesNoItem old false
+TakesFirstItem old new (Ok (Some item)) = TakesOneItem old new item
+TakesFirstItem old new (Err cut) = TakesNoItem old true

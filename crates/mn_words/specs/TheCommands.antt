@@ -125,7 +125,7 @@ plan_options_in items = do
   loss ← loss_in items
   Ok (record { mode = mode; cores = cores; seed = seed; tick_ns = tick_ns; loss = loss })
 
--- what the items behind `chain` ask for, or the first option in the order of `Opt` whose value is out of its range
+-- what the items after `chain` ask for, or the first option in the order of `Opt` whose value is out of its range
 unfoldable pub chain_of : List Item → Result ChainView WordsFault
 chain_of items = do
   seed ← seed_in items
@@ -142,21 +142,21 @@ chain_of items = do
     loss = loss;
   })
 
--- the same of the items behind `distill`
+-- the same of the items after `distill`
 unfoldable pub distill_of : List Item → Result DistillView WordsFault
 distill_of items = do
   mode ← mode_in items
   tick_ns ← tick_in items
   Ok (record { topology = text_in (codes "--topology") items; mode = mode; tick_ns = tick_ns })
 
--- the same of the items behind `assign`
+-- the same of the items after `assign`
 unfoldable pub assign_of : List Item → Result AssignView WordsFault
 assign_of items = do
   mode ← mode_in items
   cores ← cores_in 1 items
   Ok (record { topology = text_in (codes "--topology") items; mode = mode; cores = cores })
 
--- the same of the items behind `rehearse` or `emulate`
+-- the same of the items after `rehearse` or `emulate`
 unfoldable pub run_of : List Item → Result RunView WordsFault
 run_of items = do
   mode ← mode_in items
@@ -183,7 +183,7 @@ run_of items = do
     loss = loss;
   })
 
--- the same of the items behind `workload`
+-- the same of the items after `workload`
 unfoldable pub workload_of : List Item → Result WorkloadOrder WordsFault
 workload_of items = do
   cores ← cores_in 4 items
@@ -191,7 +191,7 @@ workload_of items = do
   packets ← packets_in items
   Ok (record { number = number; packets = packets; cores = cores })
 
--- the same of the items behind `journal`
+-- the same of the items after `journal`
 unfoldable pub journal_of : List Item → Result JournalView WordsFault
 journal_of items = do
   options ← plan_options_in items
@@ -207,7 +207,7 @@ journal_of items = do
     loss = options.loss;
   })
 
--- the same of the items behind `check`
+-- the same of the items after `check`
 unfoldable pub check_of : List Item → Result CheckView WordsFault
 check_of items = do
   options ← plan_options_in items
@@ -223,7 +223,7 @@ check_of items = do
     loss = options.loss;
   })
 
--- the same of the items behind `red`
+-- the same of the items after `red`
 unfoldable pub red_of : List Item → Result RedView WordsFault
 red_of items = do
   seed ← seed_in items
@@ -238,7 +238,7 @@ red_of items = do
     pipes = pipes;
   })
 
--- the same of the items behind `migrate`
+-- the same of the items after `migrate`
 unfoldable pub migrate_of : List Item → Result MigrateView WordsFault
 migrate_of items = do
   options ← plan_options_in items

@@ -19,7 +19,7 @@ number_within least most text = do
 unfoldable pub colon_parts : List ℕ → List (List ℕ)
 colon_parts text = slice_split (λ b. b == 58) text
 
--- the parts of what stands behind a colon, and none where there is none
+-- the parts of what stands after a colon, and none where there is none
 abbrev pub rest_parts : Option (List ℕ) → List (List ℕ)
 rest_parts None = []
 rest_parts (Some text) = colon_parts text

@@ -1,6 +1,6 @@
 //! The words of a command line: what they ask for, or their first fault.
 //!
-//! It stands on mn_base (limits, numbers, refusals), distill (for `Mode`) and journal (for `LossBy`). Its contract speaks of
+//! It depends on mn_base (limits, numbers, refusals), distill (for `Mode`) and journal (for `LossBy`). Its contract speaks of
 //! `ordered` (specs/Words.antt), which cites the tables of commands and of options (specs/TheCommands.antt, specs/Options.antt) and
 //! the items of a list of words (specs/Items.antt).
 #![tactic(auto)]

@@ -1,7 +1,7 @@
 ghost use Rattle.std.specs.Prelude.{◌≡◌, ◌<◌, [], ◌∷◌, length, option_copied, MatchOption};
 ghost use Rattle.mn_words.specs.Values.{colon_parts, rest_parts};
 
-/// The text before the first colon, and what stands behind it.
+/// The text before the first colon, and what stands after it.
 #[tactic(auto, using(crate::proofs::ColonParts::cuts))]
 pub fn first_part(text: &str) -> Option<(&str, &str)>
     ensures { MatchOption result (colon_parts text.now ≡ text.now ∷ [])
@@ -10,7 +10,7 @@ pub fn first_part(text: &str) -> Option<(&str, &str)>
     text.split_once(':')
 }
 
-/// The first four parts of a text, and what stands behind the colon after them, where there is one.
+/// The first four parts of a text, and what stands after the colon that follows them, where there is one.
 #[derive(Drop)]
 pub struct FourParts<'w> {
     pub first: &'w str,

@@ -1,5 +1,5 @@
 ghost use Rattle.std.specs.Prelude.{◌≡◌, [], ◌∷◌, ◌<◌, length, map, MatchOption};
-ghost use Rattle.mn_words.specs.Items.{TakesFirst, items_of};
+ghost use Rattle.mn_words.specs.Items.{TakesFirstItem, items_of};
 ghost use Rattle.mn_words.specs.Form.{bare_words};
 
 use std::marker::Model;
@@ -79,7 +79,7 @@ impl<'a, 'w> Rest<'a, 'w> {
 
     /// Takes the first item: an option with its value, in one word or in two, or a bare word. None where no word is left.
     pub fn next_item(&mut self) -> Result<Option<Item<'w>>, Cut>
-        ensures { TakesFirst self.old self.new result }
+        ensures { TakesFirstItem self.old self.new result }
     {
         let Some(word) = self.next() else {
             return Ok(None);

@@ -232,7 +232,7 @@ fn what_is_wrong_with_words(rt: HostRuntime) {
     }
 }
 
-/// A line, and so many times these words behind it: whether they are read, or the value of this option is wrong.
+/// A line, and so many times these words after it: whether they are read, or the value of this option is wrong.
 fn many_are_read(
     rt: &(impl Abort + AllocGlobal),
     line: &str,

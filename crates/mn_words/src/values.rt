@@ -106,7 +106,7 @@ pub fn mode_of(text: &str) -> Option<Mode>
     }
 }
 
-/// The mode of `walk` and the numbers behind its colon.
+/// The mode of `walk` and the numbers after its colon.
 #[tactic(auto, unfolding(crate::specs::Values::walk_of), using(crate::proofs::ColonParts::walk_of_one))]
 fn walk_of(text: &str) -> Option<Mode>
     ensures value { result ≡ walk_of (colon_parts text.now) }

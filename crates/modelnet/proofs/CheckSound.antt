@@ -27,7 +27,7 @@ never_both visits text fault = partings.no_fault (journal_lines visits) text fau
 one_fault : OneFault
 one_fault visits text fault other = partings.one_fault (journal_lines visits) text fault other (journal_lines-whole visits)
 
--- what is read behind the trace: the directory, if there is one, and the journal
+-- what is read after the trace: the directory, if there is one, and the journal
 abbrev Behind : Type 0
 Behind = Option (List ℕ) × List ℕ
 
@@ -88,7 +88,7 @@ both directory journal = (directory, journal)
 one_pair : (given other : Option (List ℕ)) (journal text : List ℕ) → given ≡ other → journal ≡ text → both given journal ≡ both other text
 one_pair given other journal text same also = ap (λ d. both d journal) same ∙ ap (λ j. both other j) also
 
--- what was read behind the trace is one directory and one journal, and no more can be read
+-- what was read after the trace is one directory and one journal, and no more can be read
 one_journal : (named : Option (List ℕ)) (front back : List (List ℕ)) (given other : Option (List ℕ)) (journal text : List ℕ)
     → IsJournalRead named front given journal → IsJournalRead named (front ++ back) other text → both given journal ≡ both other text
 one_journal None (t ∷ []) [] None None journal text is also = one_pair None None journal text refl (is ∙ sym also)

@@ -1,4 +1,4 @@
--- What stands after each step of `check`, behind the inputs of its plan.
+-- What stands after each step of `check`, after the inputs of its plan.
 use Rattle.std.proofs.Common.{◌≡◌, ◌<◌, ◌+◌, ℕ, List, [], ◌∷◌, ◌++◌, length, Option, Some, None, Result, Ok, Err, refl, sym, ◌∙◌, ap, subst, inl, inr, arith}
 use Rattle.std.proofs.lemmas.List.{append-nil}
 use Rattle.mn_base.specs.declared.refusal.Refusal.{Refusal}
@@ -40,7 +40,7 @@ use Rattle.modelnet.proofs.PlanReads.{reading_is_fine, directory_length}
 use Rattle.modelnet.proofs.RunEnds.{is_unread, screen_is_unread}
 use Rattle.modelnet.proofs.Writes.{one_text_ends}
 
--- the journal is read behind the directory
+-- the journal is read after the directory
 journal_length : (limits : ReadLimits) (named : Option (List ℕ)) (rest : List (List ℕ)) (given : Option (List ℕ)) (journal : List ℕ)
     → IsJournalRead named rest given journal → length rest ≡ length (directory_inputs limits named) + 1
 journal_length limits None (text ∷ []) None journal is = refl

@@ -61,7 +61,7 @@ trace_is_fine text trace_text trace says (BadTrace fault) is = never_capture_bot
 trace_is_fine text trace_text trace says (BadCapture fault) is = never_capture_both trace_text trace (Ng fault) says is
 trace_is_fine text trace_text trace says status is = absurd is
 
--- nor is what is read behind it
+-- nor is what is read after it
 pub reading_is_fine : (text trace_text : List ℕ) (rest : List (List ℕ)) (trace : Capture) → SaysTrace trace_text trace
     → (status : Status) → reading_refuses (text ∷ trace_text ∷ rest) status → ⊥
 reading_is_fine text trace_text [] trace says status is = trace_is_fine text trace_text trace says status is

@@ -37,7 +37,7 @@ one_directory (Some name) (text ∷ []) [] (Some given) None is also = absurd al
 one_directory (Some name) (text ∷ []) (more ∷ back) given other is also = absurd also
 one_directory (Some name) (text ∷ more ∷ front) back given other is also = absurd is
 
--- What a command that plans asks of its plan, what it reads behind the trace, and what it refuses and writes of these.
+-- What a command that plans asks of its plan, what it reads after the trace, and what it refuses and writes of these.
 pub record Planner : Type 1 where
   pub Behind : Type 0
   pub options : Options
@@ -46,7 +46,7 @@ pub record Planner : Type 1 where
   pub refuses : Behind → PlannedView → Status → Type 0
   pub writes : Behind → PlannedView → List (List ℕ) → Type 0
 
--- these inputs have this plan, with what was read behind the trace
+-- these inputs have this plan, with what was read after the trace
 pub record HasPlanned (p : Planner) (topology trace : List ℕ) (rest : List (List ℕ)) (behind : p.Behind) (planned : PlannedView) : Type 0 where
   pub given : p.is_behind rest behind
   pub plans : Plans p.options topology trace (p.directory behind) planned

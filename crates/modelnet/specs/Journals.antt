@@ -39,7 +39,7 @@ check_planning order = record {
   options = record { mode = order.mode; cores = order.cores; seed = order.seed; tick_ns = order.tick_ns; loss = order.loss };
 }
 
--- what was read behind the trace is the text of the directory, where one is named, and then a journal
+-- what was read after the trace is the text of the directory, where one is named, and then a journal
 abbrev pub IsJournalRead : Option (List ℕ) → List (List ℕ) → Option (List ℕ) → List ℕ → Type 0
 IsJournalRead None (text ∷ []) None journal = journal ≡ text
 IsJournalRead (Some name) (directory ∷ text ∷ []) (Some given) journal = (given ≡ directory) × (journal ≡ text)

@@ -36,7 +36,7 @@ directory_inputs limits (Some name) = input Directory name limits.directory ∷ 
 abbrev pub planning_inputs : ReadLimits → PlanningView → List Input
 planning_inputs limits asked = topology_input limits asked ∷ trace_input limits asked ∷ directory_inputs limits asked.directory
 
--- what was read behind the trace is the text of the directory, where one is named, and else nothing
+-- what was read after the trace is the text of the directory, where one is named, and else nothing
 abbrev pub IsDirectoryRead : Option (List ℕ) → List (List ℕ) → Option (List ℕ) → Type 0
 IsDirectoryRead None [] None = Unit {0}
 IsDirectoryRead (Some name) (text ∷ []) (Some given) = given ≡ text

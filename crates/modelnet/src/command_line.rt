@@ -21,7 +21,7 @@ pub fn command_line<R: Env + AllocGlobal>(rt: &R) -> Result<Vec<String>, Status>
     }
 }
 
-/// The words behind the first, which is the program's name.
+/// The words after the first, which is the program's name.
 pub fn words_behind(alloc: Global, all: &[String]) -> Result<Vec<&str>, AllocError>
     ensures { IfOk result (λ words. texts words.items ≡ drop 1 (map string_bytes all.now)) }
 {

@@ -1,5 +1,5 @@
 //! The emulator's commands over a host, and the program.
-//! It stands on the crates below it; its files are the roles of a host and, for each command, the run and the order of its roles.
+//! It depends on the crates below it; its files are the roles of a host and, for each command, the run and the order of its roles.
 //! Its contracts, on `plain` and on `modelnet`, which has threads, speak of `Answers` and `IsExact` (specs/Answers.antt): what stands
 //! after each answer, and which one it is.
 #![tactic(auto)]

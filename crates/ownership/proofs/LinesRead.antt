@@ -67,7 +67,7 @@ nothing_read pipes cores lines owners len none = record {
   number = refl;
 }
 
--- this line is the next, and these are left behind it
+-- this line is the next, and these are left after it
 pub record IsNextLine (pipes cores n : ℕ) (lines left : List (List ℕ)) (line : List ℕ) (owners : List (Option ℕ)) : Type 0 where
   pub now : List (List ℕ)
   pub has : HasRead pipes cores n lines now owners

@@ -58,7 +58,7 @@ among_pushed old new pipe updates k = (
     had : Bool
     had = list_any (is_at (nat_cmp k)) old
 
--- what stands behind the first is greater
+-- what stands after the first is greater
 greater : (first : ℕ) (new : List ℕ) → All (λ k. nat_cmp first k ≡ Less) new → (k : ℕ) → Among k new → first < k
 greater first new above k there = ranked first k Less (sym (All-Among (λ q. nat_cmp first q ≡ Less) k new above there))
 

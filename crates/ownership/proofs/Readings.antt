@@ -1,4 +1,4 @@
--- A directory text as a whole: its first fault by its head line and the lines behind it, and the laws of readings.
+-- A directory text as a whole: its first fault by its head line and the lines after it, and the laws of readings.
 use Rattle.std.proofs.Common.{◌≡◌, ◌≢◌, ◌<◌, ◌==◌, ◌⊎◌, inl, inr, ⊎_elim, ℕ, true, false, cond, not, List, [], ◌∷◌, length, drop, get_or, map, find, All, AllPairs, Option, Some, None, option_map, is_some, Result, Ok, Err, refl, sym, ap, ap₂, ◌∙◌, subst, arith, true≢false}
 use Rattle.std.specs.Prelude.{IfOk, IfErr}
 use Rattle.std.specs.List.{range_with_len}

@@ -45,7 +45,7 @@ abbrev pub missing_fault : ℕ → List (List ℕ) → Option AssignFault
 missing_fault pipes lines =
     option_map (λ q. Missing q) (find (λ q. not (is_owned (said_by lines) q)) (range_with_len 0 pipes))
 
--- the first fault behind the head line
+-- the first fault after the head line
 abbrev pub owners_fault : ℕ → ℕ → List (List ℕ) → Option AssignFault
 owners_fault pipes cores body = option_or (first_line_fault (owner_fault pipes cores) [] body) (missing_fault pipes body)
 

@@ -1,6 +1,6 @@
 //! Which core owns each pipe of a distilled topology, and at which core the packets of each node begin: the assignment, and the text
 //! of a directory, read and printed.
-//! It stands on distill, frontier, changes, topo and mn_base.
+//! It depends on distill, frontier, changes, topo and mn_base.
 //! Its contracts speak in `assignment` (specs/Assignment.antt), `Directs` (specs/Reading.antt), `directory_fault`
 //! (specs/Faults.antt) and `directory_text` (specs/Texts.antt).
 #![tactic(auto)]

@@ -104,7 +104,7 @@ fn fault_of(
     }
 }
 
-/// The fault of a text whose first line and two lines behind it are these, and that ends with the given lines of `STAR`.
+/// The fault of a text whose first line and two lines after it are these, and that ends with the given lines of `STAR`.
 fn fault_of_lines(
     rt: &impl Abort,
     alloc: Global,

@@ -100,7 +100,7 @@ module _ (S : SetupView) (is : IsSetup S) where
       let k = keeper number v.0 (start-in_sight number v.0 v.1 here) in
       (k.0, k.1, ((v.0, k.2, v.2), λ w j. known-late number start k.0 w s j))
 
-  -- behind the last window nothing is known
+  -- after the last window nothing is known
   pub known-none : (number core : ℕ) → window_count S ≤ number → IsLeastKnown S core number None
   known-none number core l v k =
       let c : window_of S v.tick < window_count S = (windows_hold S is).counted v k.among in

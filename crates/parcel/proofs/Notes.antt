@@ -57,7 +57,7 @@ module _ (S : SetupView) (is : IsSetup S) where
       let same : w.0 ≡ x = cc in
       subst (λ (u : Visit). EndsWay S p u) same w.1
 
-  -- and no visit of the packet is behind it
+  -- and no visit of the packet is after it
   pub end-latest : (p : PacketPlan) (x v : Visit) → EndsWay S p x → Among v (journal_of S) → v.packet ≡ p.number → v.tick ≤ x.tick
   end-latest p x v e a n = go (cases_lt x.hop v.hop)
     where

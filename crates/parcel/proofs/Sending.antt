@@ -165,7 +165,7 @@ module _ (S : SetupView) (is : IsSetup S) where
                 ∙ ap (λ (t : Told). t.note) both,
           )
 
-  -- the notes of a parcel behind a window are those of the sender's visits in it
+  -- the notes of a parcel after a window are those of the sender's visits in it
   pub next_parcel : (sender receiver window : ℕ) (note : Note)
       → IsNote S sender receiver (window + 1) note ↔ IsSender S sender receiver window note
   next_parcel sender receiver window note =

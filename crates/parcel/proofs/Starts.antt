@@ -1,5 +1,5 @@
 -- The starts of windows as a list of ticks: they are apart by the length of a window at least, and each visit from the bound on is
--- behind one of them by less than that length.
+-- after one of them by less than that length.
 use Rattle.std.proofs.Common.{◌≡◌, ◌⊎◌, inl, inr, ℕ, zero, suc, ◌+◌, ◌<◌, ◌≤◌, Bool, true, false, cond, nat_lt, nat_le, List, [], ◌∷◌, length, filter, Some, slice_get, refl, ap, ◌∙◌, arith, ltb-true, ltb-false}
 use Rattle.std.proofs.lemmas.Bool.{cases_lt, le-leb, lt-leb}
 use Rattle.mn_base.specs.Among.{Among}
@@ -42,7 +42,7 @@ module _ (len : ℕ) where
   start-late bound (t ∷ ss) (suc n) s sp e =
       let b : bound ≤ t = sp.0 in let r : t + len ≤ s = start-late (t + len) ss n s sp.1 e in omega arith
 
-  -- and a later one is at the end of the window of an earlier one, or behind it
+  -- and a later one is at the end of the window of an earlier one, or after it
   pub start-apart : (bound : ℕ) (ss : List ℕ) (m n s t : ℕ) → AreSpaced len bound ss → IsStart ss m s → IsStart ss n t → m < n → s + len ≤ t
   start-apart bound [] m n s t sp e f l = cc
   start-apart bound (u ∷ ss) m zero s t sp e f l = absurd (omega arith)

@@ -1,4 +1,4 @@
--- The windows of a setup: each visit is in one, and each starts at the least tick behind the one before it.
+-- The windows of a setup: each visit is in one, and each starts at the least tick after the one before it.
 use Rattle.std.proofs.Common.{◌≡◌, ◌⊎◌, inl, inr, ℕ, ◌+◌, ◌<◌, ◌≤◌, List, [], ◌∷◌, length, Some, refl, sym, ap, ◌∙◌, subst, arith}
 use Rattle.std.proofs.lemmas.Bool.{cases_lt, cases_order}
 use Rattle.std.proofs.lemmas.Option.{slice_get_within, slice_get-get_or}

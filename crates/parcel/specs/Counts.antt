@@ -1,5 +1,5 @@
 -- What became of the visits to one pipe.
-use Rattle.std.specs.Prelude.{ℕ, ◌==◌, ◌&&◌, Bool, true, false, List, length, filter}
+use Rattle.std.specs.Prelude.{ℕ, ◌+◌, ◌==◌, ◌&&◌, Bool, true, false, List, length, filter}
 use Rattle.pipe.specs.declared.step.Step.{Step}
 use Rattle.pipe.specs.declared.step.Step.TheVariants.{Lost, Full, Pass}
 use Rattle.pipe.specs.Finishes.{has_passed}
@@ -28,3 +28,9 @@ counts_of J pipe = record {
   lost = visit_count has_lost pipe J;
   full = visit_count has_found_full pipe J;
 }
+
+-- the counts with one visit more, of this outcome
+abbrev pub counted : PipeCounts → Step → PipeCounts
+counted c Lost = record c { lost = c.lost + 1 }
+counted c Full = record c { full = c.full + 1 }
+counted c (Pass exit) = record c { passed = c.passed + 1 }

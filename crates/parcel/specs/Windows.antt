@@ -1,4 +1,4 @@
--- Windows: spans of ticks as long as the lookahead, each from the first visit behind the window before it. No visit of a window
+-- Windows: spans of ticks as long as the lookahead, each from the first visit after the window before it. No visit of a window
 -- comes of a visit of another core in the same window.
 use Rattle.std.specs.Prelude.{ℕ, ◌+◌, nat_lt, nat_le, List, [], ◌∷◌, length, filter, if◌then◌else◌}
 use Rattle.journal.specs.declared.visit.Visit.{Visit}
@@ -7,7 +7,7 @@ use Rattle.journal.specs.Journal.{journal_of}
 use Rattle.parcel.specs.Lookahead.{lookahead_of}
 
 -- the ticks at which windows of this length start, where the visits are in order and all from `bound` on are to be covered: a
--- visit from there on starts a window, and those behind its end are covered by the windows after it
+-- visit from there on starts a window, and those after its end are covered by the windows after it
 abbrev pub starts_from : ℕ → ℕ → List Visit → List ℕ
 starts_from len bound [] = []
 starts_from len bound (v ∷ J) =

@@ -1,7 +1,7 @@
 //! What cores hand to one another and tell of their work: windows of time, parcels of notes, and the results and counts of a
 //! run.
 //!
-//! It stands on journal, pipe and mn_base. Its contracts speak of `lookahead_of` (specs/Lookahead.antt), `window_of`
+//! It depends on journal, pipe and mn_base. Its contracts speak of `lookahead_of` (specs/Lookahead.antt), `window_of`
 //! (specs/Windows.antt), `IsParcel` (specs/Parcels.antt), `IsResult` (specs/Results.antt) and `PlainBoxesView`
 //! (specs/PlainBoxesView.antt).
 #![tactic(auto)]

@@ -1,5 +1,5 @@
 //! The payloads of the packets that entered at one core: held until the packet is settled, and each handed out once.
-//! It stands on mn_base.
+//! It depends on mn_base.
 //! Its contracts speak in what is held and in what was released, in order (specs/StoreView.antt).
 #![tactic(auto)]
 

@@ -1,5 +1,5 @@
 //! Captures in the classic pcap format: what a file says, what is wrong with it first, and what is written.
-//! It stands on mn_base (limits, bytes, refusals) and mn_edge (hosts).
+//! It depends on mn_base (limits, bytes, refusals) and mn_edge (hosts).
 //! Its contracts speak in `Pcap`, the relation of a file's bytes to its trace, in `PcapFirst`, the first fault, and in `pcap_text`, the one written form.
 #![tactic(auto)]
 

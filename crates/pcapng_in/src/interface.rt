@@ -33,7 +33,7 @@ fn is_other_type(first: Option<u32>, link_type: u32) -> bool
     }
 }
 
-/// Reads the interface block of so many bytes that opens the text. The link type of the file's first interface is told, if any was before.
+/// Reads the interface block of so many bytes that opens the text. The link type of the file's first interface is given, if there was one before.
 pub fn read_interface(
     place: u32,
     first: Option<u32>,

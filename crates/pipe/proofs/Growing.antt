@@ -215,7 +215,7 @@ module _ {V : Type 0} (s : Scheme V) (o : IsOrderly s) (J : List V) (g : IsGrowi
     made = g.made;
   }
 
-  -- what is pending behind x comes after x
+  -- what is pending after x comes after x
   pub least-before : (x y : Due) → IsLeastBy s J x → Among y (dues_by s J) → is_done_by s J y ≡ false → (x ≡ y → ⊥) → Before x y
   least-before x y l b w other =
       before-either x y (λ same. other (one_pending x y l.due b l.waits w same)) (λ after. l.least y b w after)

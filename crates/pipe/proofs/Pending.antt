@@ -102,7 +102,7 @@ module _ {V : Type 0} (s : Scheme V) (o : IsOrderly s) (J : List V) (g : IsGrowi
         into (inr a) =
             pending_from s (J ++ new ∷ []) y (dues-push s J new y (pending_parts s J y (rest-pending y a)).0) (rest-undone y a)
 
-        -- what was due before and is still pending is behind it
+        -- what was due before and is still pending is after it
         old : Among y (dues_by s J) → is_done_by s (J ++ new ∷ []) y ≡ false → Among y after
         old a w = place ((t.taken y).0 ((h y).1 (pending_from s J y a (undone s J new y w))))
           where

@@ -16,7 +16,7 @@ has_passed Lost = false
 has_passed Full = false
 has_passed (Pass exit) = true
 
--- the finish of a passed visit behind one that finished at `last`: it starts at its tick or at `last`, whichever is later.
+-- the finish of a passed visit after one that finished at `last`: it starts at its tick or at `last`, whichever is later.
 -- `at` gives the parameters of the pipe at a tick, and T is the length of a tick in ns
 abbrev pub finish_of : (ℕ → PipeParams) → ℕ → ℕ → ℕ → ℕ → ℕ
 finish_of at T last tick len = max (tick * T) last + transmission (at tick).bps len

@@ -10,7 +10,7 @@ use Rattle.pipe.specs.Finishes.{PastVisit, finish_of, finishes, last_finish, abo
 abbrev pub waiting : (ℕ → PipeParams) → ℕ → List PastVisit → ℕ → ℕ
 waiting at T h tick = length (above (tick * T) (finishes at T 0 h))
 
--- the tick at which a passed visit behind h leaves: its finish in ticks, rounded up, and then the latency
+-- the tick at which a passed visit after h leaves: its finish in ticks, rounded up, and then the latency
 abbrev pub exit_of : (ℕ → PipeParams) → ℕ → List PastVisit → ℕ → ℕ → ℕ
 exit_of at T h tick len = div_ceil (finish_of at T (last_finish at T 0 h) tick len) T + (at tick).latency_ticks
 

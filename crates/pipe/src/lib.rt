@@ -1,5 +1,5 @@
 //! One pipe: bandwidth, latency, a queue of limited length and loss, by the list of the visits before.
-//! It stands on mn_base.
+//! It depends on mn_base.
 //! Its contracts speak of `step_at` (specs/Steps.antt), for each list that a pipe stands for (specs/PipeView.antt).
 #![tactic(auto)]
 

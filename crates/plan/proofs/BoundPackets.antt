@@ -10,7 +10,7 @@ use Rattle.journal.specs.declared.setup.PacketPlan.{PacketPlan}
 use Rattle.plan.specs.Binding.{Binding}
 use Rattle.plan.specs.Plans.{plan_of_bound, plan_if_bound}
 
--- the bound packets behind the first n
+-- the bound packets after the first n
 abbrev pub bound_from : ℕ → ℕ → List ℕ → List Binding → ℕ → List Packet → List (Result Binding Unbound) → List PacketPlan
 bound_from base tick_ns entries uses n packets bindings =
     filter_map (plan_if_bound base tick_ns entries uses) (enumerate_from n (zip packets bindings))

@@ -1,4 +1,4 @@
--- First uses: of each ordered pair of nodes the first binding. One binding more comes behind them, or its nodes were used before.
+-- First uses: of each ordered pair of nodes the first binding. One binding more comes after them, or its nodes were used before.
 use Rattle.std.proofs.Common.{◌≡◌, ◌<◌, ◌≤◌, ◌+◌, ◌==◌, ⊎_elim, ℕ, zero, suc, Bool, true, false, cond, not, ◌&&◌, ◌||◌, List, [], ◌∷◌, ◌++◌, length, get_or, filter, All, refl, sym, ap, ap₂, ◌∙◌, subst, arith}
 use Rattle.std.specs.Prelude.{Result, Ok, Err}
 use Rattle.std.specs.List.{list_any, position_or_len, filter_map}

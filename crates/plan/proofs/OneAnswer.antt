@@ -6,7 +6,7 @@ use Rattle.mn_base.specs.Times.{entry_tick_of}
 use Rattle.pcap_io.specs.declared.packet.Packet.{Packet}
 use Rattle.plan.specs.Binding.{Binding, ends_of}
 use Rattle.plan.specs.Grounds.{Grounds}
-use Rattle.plan.specs.Router.{Answers, Uses}
+use Rattle.plan.specs.Router.{IsRouterAnswer, Uses}
 use Rattle.plan.specs.Answers.{IsAnswer}
 
 pub unbound_by_ends : (by : Grounds) (uses : List Binding) (number : ℕ) (packet : Packet) (cause : Unbound)
@@ -14,7 +14,7 @@ pub unbound_by_ends : (by : Grounds) (uses : List Binding) (number : ℕ) (packe
 unbound_by_ends by uses number packet cause is = record { binding = Err cause; bound = inl is; uses = refl; answer_is = refl }
 
 pub unbound_by_route : (by : Grounds) (uses new : List Binding) (number : ℕ) (packet : Packet) (s d : ℕ) (cause : Unbound)
-    → ends_of by.nodes by.link_type packet.bytes ≡ Ok (s, d) → (let graph = by.graph in Answers graph.arcs uses s d new (Err cause))
+    → ends_of by.nodes by.link_type packet.bytes ≡ Ok (s, d) → (let graph = by.graph in IsRouterAnswer graph.arcs uses s d new (Err cause))
     → IsAnswer by uses number packet new (Err cause)
 unbound_by_route by uses new number packet s d cause ends missing = record {
   binding = Err cause;
@@ -24,7 +24,7 @@ unbound_by_route by uses new number packet s d cause ends missing = record {
 }
 
 pub bound_by_route : (by : Grounds) (uses new : List Binding) (number : ℕ) (packet : Packet) (s d index entry core : ℕ)
-    → ends_of by.nodes by.link_type packet.bytes ≡ Ok (s, d) → (let graph = by.graph in Answers graph.arcs uses s d new (Ok index))
+    → ends_of by.nodes by.link_type packet.bytes ≡ Ok (s, d) → (let graph = by.graph in IsRouterAnswer graph.arcs uses s d new (Ok index))
     → entry ≡ entry_tick_of by.base_ns by.tick_ns packet.time_ns → core ≡ slice_index by.entries s
     → IsAnswer by uses number packet new
     (Ok (record { number = number; entry_tick = entry; len = packet.original; route = index; core = core }))

@@ -59,7 +59,7 @@ changes_named tick_ns pipes (s ∷ said) (c ∷ changes) same named =
     (subst (λ n. n < pipes) (sym same.0.pipe) (All-head (λ (d : Change). d.pipe < pipes) s said named))
     (changes_named tick_ns pipes said changes same.1 (All-tail (λ (d : Change). d.pipe < pipes) s said named))
 
--- a change stays behind another one
+-- a change stays after another one
 behind : (tick_ns : ℕ) (s : Change) (c : PipeChange) (said : List Change) (changes : List PipeChange) → IsChangeTo tick_ns s c
     → AllZip (IsChangeTo tick_ns) said changes → All (PrecedesChange s) said → All (IsChangeBefore c) changes
 behind tick_ns s c [] [] is same later = All-nil (IsChangeBefore c)

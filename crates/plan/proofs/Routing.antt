@@ -12,7 +12,7 @@ use Rattle.mn_base.specs.declared.causes.Unbound.{Unbound}
 use Rattle.routes.specs.declared.graph.Arc.{Arc}
 use Rattle.plan.specs.Binding.{Binding, IsRouted}
 use Rattle.plan.specs.Plans.{joins, has_ends}
-use Rattle.plan.specs.Router.{with_use, IsKnownAnswer, IsRouter, Uses, Answers, IsFirstAnswer}
+use Rattle.plan.specs.Router.{with_use, IsKnownAnswer, IsRouter, Uses, IsRouterAnswer, IsFirstAnswer}
 use Rattle.journal.specs.Entries.{pair_cmp}
 use Rattle.plan.proofs.FirstUses.{joined_ends, ends_joined, place_below, place_stays, place_new, any_push}
 
@@ -105,7 +105,7 @@ route_missed arcs uses answers after s d cause is missing updates = record {
 -- ---- what is answered
 -- what was answered before is answered again
 pub answered_again : (arcs : List Arc) (uses : List Binding) (answers : ℕ → ℕ → Option (Result ℕ Unbound)) (s d : ℕ) (answer : Result ℕ Unbound)
-    → IsRouter arcs uses answers → answers s d ≡ Some answer → Answers arcs uses s d uses answer
+    → IsRouter arcs uses answers → answers s d ≡ Some answer → IsRouterAnswer arcs uses s d uses answer
 answered_again arcs uses answers s d (Ok index) is found =
     let used : IsKnownAnswer arcs uses s d (Some (Ok index)) = subst (IsKnownAnswer arcs uses s d) found (is.known s d) in
     let no_use : Binding = record { source = s; destination = d; route = [] } in
@@ -152,7 +152,7 @@ held arcs arcs' uses uses' answers after s d (Err cause) same is none first upda
 
 -- a first answer is an answer
 pub first_answer : (arcs : List Arc) (uses new : List Binding) (answers : ℕ → ℕ → Option (Result ℕ Unbound)) (s d : ℕ) (answer : Result ℕ Unbound)
-    → IsRouter arcs uses answers → answers s d ≡ None → IsFirstAnswer arcs uses s d new answer → Answers arcs uses s d new answer
+    → IsRouter arcs uses answers → answers s d ≡ None → IsFirstAnswer arcs uses s d new answer → IsRouterAnswer arcs uses s d new answer
 first_answer arcs uses new answers s d (Ok index) is none first =
     subst (λ (us : List Binding). Uses arcs uses s d index us) (sym first.2)
     (subst (λ (n : ℕ). Uses arcs uses s d n (uses ++ record { source = s; destination = d; route = first.0 } ∷ [])) (sym first.3)

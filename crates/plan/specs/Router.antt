@@ -17,7 +17,7 @@ binding_of u = record { source = u.source; destination = u.destination; route = 
 abbrev pub bindings_of : List Use → List Binding
 bindings_of uses = map binding_of uses
 
--- the uses, with this one behind them if its nodes weren't used before
+-- the uses, with this one after them if its nodes weren't used before
 abbrev pub with_use : List Binding → Binding → List Binding
 with_use uses b = if list_any (has_ends b) uses then uses else uses ++ b ∷ []
 
@@ -42,9 +42,9 @@ pub record Uses (arcs : List Arc) (old : List Binding) (source destination index
   pub index_is : index ≡ position_or_len (joins source destination) new
 
 -- what a router answers for two nodes: the place of their route among the uses, or why they have none
-abbrev pub Answers : List Arc → List Binding → ℕ → ℕ → List Binding → Result ℕ Unbound → Type 0
-Answers arcs old source destination new (Ok index) = Uses arcs old source destination index new
-Answers arcs old source destination new (Err cause) = (new ≡ old) × IsRouted arcs source destination (Err cause)
+abbrev pub IsRouterAnswer : List Arc → List Binding → ℕ → ℕ → List Binding → Result ℕ Unbound → Type 0
+IsRouterAnswer arcs old source destination new (Ok index) = Uses arcs old source destination index new
+IsRouterAnswer arcs old source destination new (Err cause) = (new ≡ old) × IsRouted arcs source destination (Err cause)
 
 -- ---- the router
 -- what it answered is what is known of its uses
@@ -52,7 +52,7 @@ abbrev pub HoldsAnswers : Router → Type 0
 HoldsAnswers r =
     let graph = r.searches in IsRouter graph.arcs (bindings_of r.uses.items) (λ source destination. get pair_cmp r.answers (source, destination))
 
--- the route is a new use, behind the others, or there is none
+-- the route is a new use, after the others, or there is none
 abbrev pub IsFirstAnswer : List Arc → List Binding → ℕ → ℕ → List Binding → Result ℕ Unbound → Type 0
 IsFirstAnswer arcs old source destination new (Ok index) =
     (route : List ℕ)

@@ -1,7 +1,7 @@
 ghost use Rattle.std.specs.Prelude.{◌≡◌, ◌<◌, [], IfOk, OnOk, length, None};
 ghost use Rattle.std.specs.BTreeMap.{IsEmpty};
 ghost use Rattle.mn_base.specs.declared.limits.TheConstants.{PACKETS_MAX};
-ghost use Rattle.plan.specs.Router.{bindings_of, HoldsAnswers, IsFirstAnswer, Answers};
+ghost use Rattle.plan.specs.Router.{bindings_of, HoldsAnswers, IsFirstAnswer, IsRouterAnswer};
 
 use crate::searches::Searches;
 use crate::uses::Use;
@@ -48,7 +48,7 @@ impl<'g> Router<'g> {
         requires few { length self.old.uses.items < PACKETS_MAX }
         ensures graph { self.new.searches ≡ self.old.searches }
         ensures holds { OnOk result (HoldsAnswers self.new) }
-        ensures answers { IfOk result (Answers self.old.searches.arcs (bindings_of self.old.uses.items) source destination
+        ensures answers { IfOk result (IsRouterAnswer self.old.searches.arcs (bindings_of self.old.uses.items) source destination
             (bindings_of self.new.uses.items)) }
     {
         if let Some(answer) = self.answers.get(&(source, destination)).copied() {

@@ -49,7 +49,7 @@ abbrev pub outcome_at : RedSetupView → Due → List RedPast → RedParams → 
 outcome_at R x h p =
     red_outcome p R.tick_ns h x.tick (red_len_of R x.packet) (red_is_lost R p x) (early_word R.seed x.hop x.packet)
 
--- the same at its own pipe of the row; there is none behind the last
+-- the same at its own pipe of the row; there is none after the last
 unfoldable pub red_step_of : RedSetupView → Due → List RedPast → RedStep
 red_step_of R x h = option_map_or (outcome_at R x h) (slice_get R.pipes x.hop) Lost
 

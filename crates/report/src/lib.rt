@@ -1,6 +1,6 @@
 //! The two outputs of a run, the trace of the packets that left and the report, the text of a distilled topology, the cluster report,
 //! the summary of a generated input, and the text of a run whose pipes moved.
-//! It stands on settle, journal, pcap_io, parcel, distill, topo and mn_base.
+//! It depends on settle, journal, pcap_io, parcel, distill, topo and mn_base.
 //! Its contracts speak in `trace_of` (specs/Traces.antt), `report_text` (specs/Report.antt),
 //! `pipes_text` (specs/Pipes.antt), `cluster_text` (specs/Cluster.antt), `summary_text` (specs/Summary.antt) and
 //! `moves_text` (specs/Moves.antt).

@@ -170,7 +170,7 @@ module _ (old new : List Entry) (entry : Entry) where
       had : Bool
       had = list_any (is_at (entry_cmp k)) old
 
-  -- after the first is taken, those behind it are left, since each is greater
+  -- after the first is taken, those after it are left, since each is greater
   pub among_popped : old ≡ entry ∷ new → All (λ k. entry_cmp entry k ≡ Less) new → (k : Entry) → Among k new ↔ (Among k old × (k ≢ entry))
   among_popped removal above k = (
     λ later. (

@@ -76,7 +76,7 @@ module _ {g : GraphView} {s : Search} {last : Label} {row : List ℕ} {i : ℕ} 
       let low = few in
       omega arith
 
-  -- its offer leaves the arcs behind it
+  -- its offer leaves the arcs after it
   pub one_less : (s' : Search) → Offers s s' (arc_at g.arcs (get_or row i 0)).from (offer_of g.arcs (get_or row i 0) last)
       → IsSearching g s' last (drop (i + 1) row)
   one_less s' step = offered g s s' last (get_or row i 0) (drop (i + 1) row) first from_below step

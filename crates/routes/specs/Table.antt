@@ -41,7 +41,7 @@ pub record HasNoWorse (label : ℕ → Option Label) (v : ℕ) (c : Label) : Typ
   pub has : label v ≡ Some own
   pub below : IsNoWorse own c
 
--- each label stands for an arc and the label behind it, and no arc offers a better one
+-- each label stands for an arc and the label after it, and no arc offers a better one
 pub record IsTable (arcs : List Arc) (destination : ℕ) (label : ℕ → Option Label) : Type 0 where
   pub at_home : label destination ≡ Some home
   pub led : (v : ℕ) (l : Label) → label v ≡ Some l → v ≢ destination → IsLedBy arcs label v l

@@ -1,5 +1,5 @@
 //! Least routes: for one destination, the least walk from each node of a directed graph.
-//! It stands on mn_base.
+//! It depends on mn_base.
 //! Its contracts speak in walks (specs/Walk.antt) and in the order of their keys (specs/LeastWalk.antt).
 #![tactic(auto)]
 

@@ -13,7 +13,8 @@ use Rattle.pipe.specs.Finishes.{has_passed}
 use Rattle.journal.specs.declared.fate.Fate.{Fate}
 use Rattle.parcel.specs.declared.counts.PipeCounts.{PipeCounts}
 use Rattle.parcel.specs.Counts.{has_lost, has_found_full}
-use Rattle.settle.specs.Counted.{counted, HasRoom}
+use Rattle.parcel.specs.Counts.{counted}
+use Rattle.settle.specs.Counted.{HasRoom}
 use Rattle.settle.specs.Ways.{drop_step, way_from, way_of, step_count, counts_by, IsTally}
 use Rattle.settle.proofs.Lists.{many-append, many-cons}
 

@@ -26,7 +26,7 @@ pub record IsWalk (J : List Visit) (packet : ℕ) (route : List ℕ) (fate : Fat
   -- one visit to each hop
   pub one : (v w : Visit) → Among v J → Among w J → v.packet ≡ packet → w.packet ≡ packet → v.hop ≡ w.hop → v ≡ w
   pub first : 0 < length route → (v : Visit) × Among v J × (v.packet ≡ packet) × (v.hop ≡ 0)
-  -- behind a visit that passed comes that to the next hop, and before that to a later hop stands one that passed
+  -- after a visit that passed comes that to the next hop, and before that to a later hop stands one that passed
   pub next : (v : Visit) (exit : ℕ) → Among v J → v.packet ≡ packet → v.step ≡ Pass exit → v.hop + 1 < length route
       → (w : Visit) × Among w J × (w.packet ≡ packet) × (w.hop ≡ v.hop + 1)
   pub before : (w : Visit) (hop : ℕ) → Among w J → w.packet ≡ packet → w.hop ≡ hop + 1
@@ -72,7 +72,7 @@ pub record IsCounted (J : List Visit) (packet hop : ℕ) (rest : List ℕ) (fate
       → many (from_hop packet hop (to_pipe has pipe)) J ≡ step_count has pipe (way_of rest fate)
   pub dropper : (pipe tick : ℕ) (cause : Cause) → fate ≡ Dropped pipe tick cause → Among pipe rest
 
--- the first of a route's rest, and the rest behind it
+-- the first of a route's rest, and the rest after it
 first-of_rest : (route : List ℕ) (hop pipe : ℕ) (rest : List ℕ) → drop hop route ≡ pipe ∷ rest → slice_index route hop ≡ pipe
 first-of_rest route hop pipe rest is =
     sym (ap (λ n. slice_index route n) add-zero-hop) ∙ sym (get_or-drop hop route 0 0) ∙ ap (λ xs. slice_index xs 0) is
@@ -91,7 +91,7 @@ rest-of_rest route hop pipe rest is =
     let here = drop-cons route hop 0 (omega (arith, length-of_rest route hop pipe rest is)) in
     cc
 
--- a pipe that stands once on a route doesn't stand behind itself
+-- a pipe that stands once on a route doesn't stand after itself
 not-behind : (pipe : ℕ) (rest : List ℕ) → AllPairs (λ a b. a ≢ b) (pipe ∷ rest) → Among pipe rest → ⊥
 not-behind pipe rest distinct among =
     All-Among (λ b. pipe ≢ b) pipe rest (λ i d within. distinct 0 (suc i) d (omega arith) (omega arith)) among refl
@@ -127,7 +127,7 @@ module _ {J : List Visit} {packet : ℕ} {route : List ℕ} {fate : Fate} (w : I
       let u = w.before v (hop + 1 + k) among is (omega arith) in
       passed-before k hop u.0 u.1 u.2 u.3
 
-  -- so none goes on behind a visit that didn't pass
+  -- so none goes on after a visit that didn't pass
   nothing-after : (v : Visit) → Among v J → v.packet ≡ packet → ((exit : ℕ) → v.step ≡ Pass exit → ⊥) → (test : Visit → Bool)
       → many (from_hop packet (suc v.hop) test) J ≡ 0
   nothing-after v among is stops test = many-none (from_hop packet (suc v.hop) test) J
@@ -140,7 +140,7 @@ module _ {J : List Visit} {packet : ℕ} {route : List ℕ} {fate : Fate} (w : I
       let same : back.0 ≡ v = w.one back.0 v back.1 among back.2 is back.3 in
       stops back.4.0 (ap (λ (x : Visit). x.step) (sym same) ∙ back.4.1))
 
-  -- nor behind the last hop
+  -- nor after the last hop
   nothing-beyond : (hop : ℕ) → length route ≤ hop → (test : Visit → Bool) → many (from_hop packet hop test) J ≡ 0
   nothing-beyond hop long test = many-none (from_hop packet hop test) J
       (λ u later passes.
@@ -177,7 +177,7 @@ module _ {J : List Visit} {packet : ℕ} {route : List ℕ} {fate : Fate} (w : I
       → as_number (to_pipe has q v) ≡ as_number (eqb pipe q && has step)
   test-is v pipe step has q pipe_is step_is = ap (λ n. as_number (eqb n q && has v.step)) pipe_is ∙ ap (λ b. as_number (eqb pipe q && b)) step_is
 
-  -- from a visit on, what is counted of the packet is its way along the rest of the route, if that holds behind a visit that passed
+  -- from a visit on, what is counted of the packet is its way along the rest of the route, if that holds after a visit that passed
   walk-on : (rest : List ℕ) (pipe : ℕ) (v : Visit) → Among v J → v.packet ≡ packet → drop v.hop route ≡ pipe ∷ rest
       → AllPairs (λ a b. a ≢ b) (pipe ∷ rest) → ((exit : ℕ) → v.step ≡ Pass exit → IsCounted J packet (suc v.hop) rest fate)
       → IsCounted J packet v.hop (pipe ∷ rest) fate

@@ -1,14 +1,6 @@
--- Counts, visit by visit.
+-- Counts that have room for one visit more.
 use Rattle.std.specs.Prelude.{◌+◌, ◌^◌, ◌<◌}
-use Rattle.pipe.specs.declared.step.Step.{Step}
-use Rattle.pipe.specs.declared.step.Step.TheVariants.{Lost, Full, Pass}
 use Rattle.parcel.specs.declared.counts.PipeCounts.{PipeCounts}
-
--- the counts with one more visit of this outcome
-abbrev pub counted : PipeCounts → Step → PipeCounts
-counted c Lost = record c { lost = c.lost + 1 }
-counted c Full = record c { full = c.full + 1 }
-counted c (Pass exit) = record c { passed = c.passed + 1 }
 
 -- one more visit can be counted
 pub record HasRoom (c : PipeCounts) : Type 0 where

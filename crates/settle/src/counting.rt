@@ -7,7 +7,8 @@ ghost use Rattle.journal.specs.SetupView.{route_of};
 ghost use Rattle.journal.specs.Journal.{journal_of};
 ghost use Rattle.journal.specs.Fates.{fate_of};
 ghost use Rattle.parcel.specs.Counts.{counts_of};
-ghost use Rattle.settle.specs.Counted.{counted, HasRoom};
+ghost use Rattle.parcel.specs.Counts.{counted};
+ghost use Rattle.settle.specs.Counted.{HasRoom};
 ghost use Rattle.settle.specs.Ways.{step_of_cause, drop_step, way_of, counts_by, IsTally};
 
 use journal::steps::route;

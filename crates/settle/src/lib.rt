@@ -1,5 +1,5 @@
 //! The outcome of a run: who left when and with which bytes, who was dropped where, and what each pipe did.
-//! It stands on parcel, journal, pipe and mn_base.
+//! It depends on parcel, journal, pipe and mn_base.
 //! Its contracts speak in `IsOutcome` (specs/IsOutcome.antt), the outcome of a setup by the list of its visits.
 #![tactic(auto)]
 

@@ -2,7 +2,7 @@ use mn_base::{Bytes, Cause};
 use parcel::{CoreCounts, PipeCounts};
 use std::marker::Model;
 
-/// A packet that left the last pipe of its route.
+/// A packet that left.
 #[derive(Drop)]
 pub struct Leaving {
     /// The tick at which it left.

@@ -3,11 +3,11 @@ use crate::keys::Key;
 /// What there are too many of.
 #[derive(Clone, Copy, Debug, PartialEq, Eq)]
 pub enum Many {
-    /// More than 4,096 nodes.
+    /// More than `NODES_MAX` nodes.
     Nodes,
     /// More than 512 nodes with an address.
     EdgeNodes,
-    /// More than 32,768 links.
+    /// More than `LINKS_MAX` links.
     Links,
 }
 

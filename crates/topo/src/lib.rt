@@ -1,5 +1,5 @@
 //! Valid topologies: nodes, links, and the first fault of what is none.
-//! It stands on mn_base.
+//! It depends on mn_base.
 //! Its contracts speak in the first fault (specs/Faults.antt), the links of edges (specs/Links.antt), valid topologies
 //! (specs/Topologies.antt) and the spelling of keys (specs/Keys.antt).
 #![tactic(auto)]

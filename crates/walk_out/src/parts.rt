@@ -28,8 +28,8 @@ impl Model for Parts {
     ghost view = { λ p. record { kept = p.kept.items; border = p.border.items; middle = p.middle.items } };
 }
 
-#[tactic(auto, using(frontier::proofs::Numbers::range_more))]
 /// The parts of a topology of which every link stays.
+#[tactic(auto, using(frontier::proofs::Numbers::range_more))]
 pub fn hop(alloc: Global, topology: &Topology) -> Result<Parts, NoMemory>
     ensures { IfOk result (λ parts. parts ≡ hop_parts topology.now) }
 {
@@ -44,8 +44,8 @@ pub fn hop(alloc: Global, topology: &Topology) -> Result<Parts, NoMemory>
     })
 }
 
-#[tactic(auto, using(frontier::proofs::Numbers::filter_range_more))]
 /// The parts of a topology with these outer nodes: links with an end among them stay.
+#[tactic(auto, using(frontier::proofs::Numbers::filter_range_more))]
 pub(crate) fn parts_around(
     alloc: Global,
     topology: &Topology,

@@ -87,8 +87,8 @@ fn core_of(frontiers: &[Vec<u32>], w: usize, o: usize) -> &[Vec<u32>]
     &nonempty[start..]
 }
 
-#[tactic(auto, using(frontier::proofs::Numbers::filter_range_more))]
 /// The nodes of the first set, and those that are near and not outer, in number order.
+#[tactic(auto, using(frontier::proofs::Numbers::filter_range_more))]
 fn border_of(
     alloc: Global,
     first: &NodeSet,

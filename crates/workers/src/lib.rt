@@ -1,6 +1,6 @@
 //! All cores of an emulation on threads: core 0 on the caller's own, each other one on a thread of its own, with lanes between them.
 //!
-//! It stands on core_loop, gate_ports, parcel, payload_store, journal and mn_base. Its contracts speak of the results of all cores
+//! It depends on core_loop, gate_ports, parcel, payload_store, journal and mn_base. Its contracts speak of the results of all cores
 //! (parcel's `AreResults`) and of what went through their ports, `HaveCarriedAll` (specs/Ran.antt).
 #![tactic(auto)]
 

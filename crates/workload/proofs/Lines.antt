@@ -6,7 +6,7 @@ use Rattle.workload.specs.declared.shape.TheConstants.{ROUTERS, CHORDS}
 use Rattle.mn_base.specs.Draws.{state_at}
 use Rattle.workload.specs.Gml.{router_line, host_line, trunk_line, access_line, router_lines, host_lines, ring_lines, chord_lines, access_lines}
 
--- nothing behind a list
+-- nothing after a list
 append-nil : {X : Type 0} (xs : List X) → xs ++ [] ≡ xs
 append-nil [] = refl
 append-nil (x ∷ xs) = ap (λ l. x ∷ l) (append-nil xs)
@@ -23,7 +23,7 @@ range-more n =
     let last : 0 + n ≡ n = omega arith in
     ap (λ m. range_with_len 0 m) more ∙ range-suc 0 n ∙ ap (λ k. range_with_len 0 n ++ k ∷ []) last
 
--- line i goes behind the lines below i, so they are the lines below i + 1
+-- line i goes after the lines below i, so they are the lines below i + 1
 next_line : (f : ℕ → List ℕ) (i : ℕ) (before now now' : List ℕ) → now ≡ before ++ flat_map f (range_with_len 0 i) → now' ≡ now ++ f i
     → now' ≡ before ++ flat_map f (range_with_len 0 (i + 1))
 next_line f i before now now' so_far is =
@@ -35,7 +35,7 @@ pub no_routers : (before : List ℕ) → before ≡ before ++ router_lines 0
 unfolding router_lines
 no_routers before = sym (append-nil before)
 
--- a router's line goes behind those before it
+-- a router's line goes after those before it
 pub next_router : (i : ℕ) (before now now' : List ℕ) → now ≡ before ++ router_lines i → now' ≡ now ++ router_line i
     → now' ≡ before ++ router_lines (i + 1)
 unfolding router_lines
@@ -46,7 +46,7 @@ pub no_hosts : (before : List ℕ) → before ≡ before ++ host_lines 0
 unfolding host_lines
 no_hosts before = sym (append-nil before)
 
--- a host's line goes behind those before it
+-- a host's line goes after those before it
 pub next_host : (i : ℕ) (before now now' : List ℕ) → now ≡ before ++ host_lines i → now' ≡ now ++ host_line i
     → now' ≡ before ++ host_lines (i + 1)
 unfolding host_lines
@@ -57,7 +57,7 @@ pub no_ring : (x : ℕ) (before : List ℕ) → before ≡ before ++ ring_lines 
 unfolding ring_lines
 no_ring x before = sym (append-nil before)
 
--- the link to the next router goes behind those before it
+-- the link to the next router goes after those before it
 pub next_of_ring : (x s i : ℕ) (before now now' : List ℕ) → s ≡ state_at x (3 * i) → now ≡ before ++ ring_lines x i
     → now' ≡ now ++ trunk_line s i ((i + 1) % ROUTERS) → now' ≡ before ++ ring_lines x (i + 1)
 unfolding ring_lines
@@ -70,7 +70,7 @@ pub no_chords : (x : ℕ) (before : List ℕ) → before ≡ before ++ chord_lin
 unfolding chord_lines
 no_chords x before = sym (append-nil before)
 
--- a chord goes behind those before it
+-- a chord goes after those before it
 pub next_chord : (x s i : ℕ) (before now now' : List ℕ) → s ≡ state_at x (3 * i) → now ≡ before ++ chord_lines x i
     → now' ≡ now ++ trunk_line s i (i + CHORDS) → now' ≡ before ++ chord_lines x (i + 1)
 unfolding chord_lines
@@ -83,7 +83,7 @@ pub no_access : (x : ℕ) (before : List ℕ) → before ≡ before ++ access_li
 unfolding access_lines
 no_access x before = sym (append-nil before)
 
--- a host's link goes behind those before it
+-- a host's link goes after those before it
 pub next_access : (x s i : ℕ) (before now now' : List ℕ) → s ≡ state_at x i → now ≡ before ++ access_lines x i
     → now' ≡ now ++ access_line s i → now' ≡ before ++ access_lines x (i + 1)
 unfolding access_lines

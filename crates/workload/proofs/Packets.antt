@@ -87,7 +87,7 @@ pub record ArePacketsBelow (x s p time : ℕ) (before text : List ℕ) : Type 0 
   pub state_is : s ≡ state_at x (4 * p)
   pub early : time ≤ 200000 * p
 
--- the record of packet p goes behind them
+-- the record of packet p goes after them
 pub next_record : {x s p time : ℕ} {before now now' : List ℕ} → ArePacketsBelow x s p time before now
     → now' ≡ now ++ record_text (drawn_packet s time)
     → now' ≡ before ++ flat_map record_text (packets_by_draws x (p + 1))

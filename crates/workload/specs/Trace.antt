@@ -21,7 +21,7 @@ gap_at x = draw_at x 3 200000
 abbrev pub host_address : ℕ → List ℕ
 host_address j = 10 ∷ 0 ∷ 0 ∷ (j + 1) ∷ []
 
--- An IPv4 header (RFC 791) and nothing behind it: version 4 and five words, the length, lifetime 64, protocol 17 (UDP), the two
+-- An IPv4 header (RFC 791) and nothing after it: version 4 and five words, the length, lifetime 64, protocol 17 (UDP), the two
 -- hosts' addresses, and 0 elsewhere.
 abbrev pub ip_header : ℕ → ℕ → ℕ → List ℕ
 ip_header len source destination =

@@ -1,6 +1,6 @@
 //! All cores of an emulation on one thread, over plain boxes, in any order of turns.
 //!
-//! It stands on core_loop, parcel, payload_store, journal and mn_base. Its contracts speak of `WorldView` (specs/WorldView.antt), of what
+//! It depends on core_loop, parcel, payload_store, journal and mn_base. Its contracts speak of `WorldView` (specs/WorldView.antt), of what
 //! a world keeps, `WorldStands`, and of its turns (specs/Worlds.antt).
 #![tactic(auto)]
 

@@ -5,7 +5,7 @@ use crate::status::Status;
 use mn_words::WordsFault;
 use std::env::{Env, FillError};
 
-/// A system that was started with one word behind the program's name.
+/// A system that was started with one word after the program's name.
 #[derive(Drop)]
 struct Started<'a> {
     word: &'a [u8],

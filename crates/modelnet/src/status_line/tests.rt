@@ -12,7 +12,7 @@ use std::alloc::Global;
 use std::test::Fail;
 use topo::{Key, Many, TopoFault};
 
-/// The lines of these statuses, one behind another.
+/// The lines of these statuses, one after another.
 fn lines_of(alloc: Global, statuses: &[Status]) -> Result<Vec<u8>, Fail> {
     let mut lines = Vec::new(alloc);
     for status in statuses {

@@ -125,7 +125,7 @@ fn edge_nodes(rt: &impl AllocGlobal, count: u32) -> Result<String, AllocError> {
     Ok(text)
 }
 
-/// One edge node, 1,000 routers next to it, and one further router behind them all.
+/// One edge node, 1,000 routers next to it, and one further router beyond them all.
 pub fn fan_of_routers(rt: &impl AllocGlobal) -> Result<String, AllocError> {
     let start = "graph [ node [ id 0 address \"10.0.0.1\" ] node [ id 1001 ]";
     let mut text = String::from_str(rt.alloc(), start)?;

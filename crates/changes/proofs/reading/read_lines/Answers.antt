@@ -5,7 +5,7 @@ use Rattle.changes.specs.declared.split.Change.{Change}
 use Rattle.changes.proofs.LinesRead.{IsReading, one_read, first_fault_read}
 use Rattle.changes.proofs.reading.read_lines.Goals as goal
 
--- a line is left, and those behind it
+-- a line is left, and those after it
 pub returns-in-Err-clause-fault : goal.returns-in-Err-clause-fault
 returns-in-Err-clause-fault c =
     first_fault_read c.args.pipes c.lines.number (lines_of c.args.text.now) (lines_of c.split_line.result.1.now) c.split_line.result.0.now

@@ -8,7 +8,7 @@ use Rattle.migrate.proofs.After.{counts-after, held-still}
 use Rattle.migrate.proofs.Made.{due-known, due-within, plan-among, core-within, pipe-is, first-here, comes-here, count-within, count-is, count-room, few-made, next-of, next-tick, next-alone, runs-put, runs-settle}
 use Rattle.pipe.specs.declared.step.Step.{Step}
 use Rattle.journal.specs.Fates.{fate_of_step}
-use Rattle.settle.specs.Counted.{counted}
+use Rattle.parcel.specs.Counts.{counted}
 use Rattle.migrate.proofs.ShelfSteps.{changes-set, get-at}
 use Rattle.migrate.proofs.shelves.Shelves.make.Goals as goal
 

@@ -5,7 +5,7 @@ use Rattle.plan.specs.Binding.{ends_of}
 use Rattle.std.specs.Prelude.{slice_index}
 use Rattle.mn_base.specs.Times.{entry_tick_of}
 use Rattle.plan.specs.Grounds.{Grounds}
-use Rattle.plan.specs.Router.{bindings_of, Answers}
+use Rattle.plan.specs.Router.{bindings_of, IsRouterAnswer}
 use Rattle.plan.proofs.Bindings.{ends_below}
 use Rattle.plan.proofs.OneAnswer.{unbound_by_ends, unbound_by_route, bound_by_route}
 use Rattle.plan.proofs.binder.Binder.bind.Goals as goal
@@ -36,9 +36,9 @@ returns-in-Err-2-clause-answer c =
     unbound_by_route c.args.self.now (bindings_of c.args.router.now.uses.items) (bindings_of c.find.new.self.uses.items) c.args.number
     c.args.packet.now c.in-Ok.ends.0 c.in-Ok.ends.1 c.in-Err-2.cause
     (ap (ends_of c.args.self.now.nodes c.args.self.now.link_type) (sym c.as_slice.ensures.lent) ∙ sym c.in-Ok.ensures.ends)
-    (subst (λ (r : Result ℕ Unbound). Answers c.args.self.now.graph.arcs (bindings_of c.args.router.now.uses.items) c.in-Ok.ends.0 c.in-Ok.ends.1
+    (subst (λ (r : Result ℕ Unbound). IsRouterAnswer c.args.self.now.graph.arcs (bindings_of c.args.router.now.uses.items) c.in-Ok.ends.0 c.in-Ok.ends.1
     (bindings_of c.find.new.self.uses.items) r) c.in-Err-2.is
-    (subst (λ (g : GraphView). Answers g.arcs (bindings_of c.args.router.now.uses.items) c.in-Ok.ends.0 c.in-Ok.ends.1
+    (subst (λ (g : GraphView). IsRouterAnswer g.arcs (bindings_of c.args.router.now.uses.items) c.in-Ok.ends.0 c.in-Ok.ends.1
     (bindings_of c.find.new.self.uses.items) c.in_ok-route.field-0) c.requires.graph c.in_ok-route.ensures.answers))
 
 pub returns-clause-answer : goal.returns-clause-answer
@@ -46,9 +46,9 @@ returns-clause-answer c =
     bound_by_route c.args.self.now (bindings_of c.args.router.now.uses.items) (bindings_of c.find.new.self.uses.items) c.args.number
     c.args.packet.now c.in-Ok.ends.0 c.in-Ok.ends.1 c.in-Ok-2.route c.entry_tick.result c.entry.result
     (ap (ends_of c.args.self.now.nodes c.args.self.now.link_type) (sym c.as_slice.ensures.lent) ∙ sym c.in-Ok.ensures.ends)
-    (subst (λ (r : Result ℕ Unbound). Answers c.args.self.now.graph.arcs (bindings_of c.args.router.now.uses.items) c.in-Ok.ends.0 c.in-Ok.ends.1
+    (subst (λ (r : Result ℕ Unbound). IsRouterAnswer c.args.self.now.graph.arcs (bindings_of c.args.router.now.uses.items) c.in-Ok.ends.0 c.in-Ok.ends.1
     (bindings_of c.find.new.self.uses.items) r) c.in-Ok-2.is
-    (subst (λ (g : GraphView). Answers g.arcs (bindings_of c.args.router.now.uses.items) c.in-Ok.ends.0 c.in-Ok.ends.1
+    (subst (λ (g : GraphView). IsRouterAnswer g.arcs (bindings_of c.args.router.now.uses.items) c.in-Ok.ends.0 c.in-Ok.ends.1
     (bindings_of c.find.new.self.uses.items) c.in_ok-route.field-0) c.requires.graph c.in_ok-route.ensures.answers))
     (c.entry_tick.ensures.value ∙ ap (λ (b : Grounds). entry_tick_of b.base_ns b.tick_ns c.args.packet.now.time_ns) c.self.view_is)
     (c.entry.ensures.value ∙ ap (λ (b : Grounds). slice_index b.entries c.in-Ok.ends.0) c.self.view_is)
