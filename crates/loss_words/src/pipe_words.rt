@@ -59,7 +59,7 @@ impl PipeWords {
 }
 
 /// Brings the generator to a place of its stream: past words in hand where the place is near, and else anew.
-fn go_to(generator: &mut ChaCha8Rng, place: u128)
+pub(crate) fn go_to(generator: &mut ChaCha8Rng, place: u128)
     requires { place < 2 ^ 32 }
     ensures { generator.new ≡ record generator.old { word_pos = place } }
 {

@@ -1,4 +1,4 @@
-use super::{PipeWords, Words};
+use super::{EarlyWords, PipeWords, Words};
 
 /// (seed, pipe, place, word), worked out by a program of its own in Python: the block function of
 /// RFC 8439 with 8 rounds, a 64-bit counter and a 64-bit stream, which gives the published first
@@ -68,6 +68,19 @@ fn places_far_near_and_back_have_their_words(rt: HostRuntime) {
 }
 
 #[test]
+fn early_words_of_one_pipe_are_those_of_all_pipes(rt: HostRuntime) {
+    for (seed, pipe, place, word) in EARLY_VECTORS {
+        let mut words = EarlyWords::new(seed, pipe);
+        assert_eq!(rt; words.word(place), word, "seed {seed} pipe {pipe}");
+    }
+    let mut one = EarlyWords::new(7, 3);
+    let mut all = Words::new(7);
+    for place in [0, 1, 15, 16, 63, 64, 65, 127, 20, 1_048_575, 0] {
+        assert_eq!(rt; one.word(place), all.early_word(3, place), "place {place}");
+    }
+}
+
+#[test]
 fn a_word_does_not_depend_on_what_was_asked_before(rt: HostRuntime) {
     let mut words = Words::new(7);
     assert_eq!(rt; words.word(9, 300), Words::new(7).word(9, 300));
@@ -82,4 +95,5 @@ fn may_move_to_a_thread<T: Send>(_value: &T) {}
 fn words_may_move_to_a_thread() {
     may_move_to_a_thread(&Words::new(0));
     may_move_to_a_thread(&PipeWords::new(0, 0));
+    may_move_to_a_thread(&EarlyWords::new(0, 0));
 }

@@ -8,7 +8,7 @@ use rand_core::utils::NextWord;
 use std::marker::Model;
 
 /// The stream of the early words of pipe 0. The loss words of pipes have the streams below.
-const EARLY_STREAMS: u64 = 1 << 32;
+pub(crate) const EARLY_STREAMS: u64 = 1 << 32;
 
 /// The loss words of a seed, one for each pipe and place.
 ///
@@ -53,7 +53,7 @@ impl Words {
     }
 
     /// The early word of a pipe at a place, whatever was asked before: the word by which a queue that drops early decides. Its
-    /// stream is after those of all pipes' loss words.
+    /// stream is after those of all pipes' loss words. Each call computes a block anew: `EarlyWords` doesn't.
     #[tactic(auto, unfolding(crate::specs::Word::early_word))]
     pub fn early_word(&mut self, pipe: u32, place: u32) -> u32
         ensures word { result ≡ early_word self.old pipe place }
