@@ -14,7 +14,7 @@ pub fn words_and_bytes_have_one_outcome()
     ensures { WordsAndBytesHaveOneOutcome }
 {}
 
-/// `chain` allows the same outputs for a pcapng file and for the classic copy of its trace.
+/// Each command that reads a trace allows the same outputs for a pcapng file and for the classic copy of its trace.
 pub fn pcapng_is_replayed_as_its_copy()
     ensures { PcapngIsReplayedAsItsCopy }
 {}

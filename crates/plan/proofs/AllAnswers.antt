@@ -1,7 +1,7 @@
 -- The answers of a trace, packet by packet, and what is bound and what isn't by them.
-use Rattle.std.proofs.Common.{◌≡◌, ◌<◌, ◌≤◌, ◌+◌, ℕ, zero, suc, true, List, [], ◌∷◌, ◌++◌, length, get_or, map, All, Option, Some, None, Result, Ok, Err, refl, sym, ap, ap₂, ◌∙◌, subst, arith}
+use Rattle.std.proofs.Common.{◌≡◌, ◌≤◌, ◌+◌, ℕ, suc, true, List, [], ◌∷◌, ◌++◌, length, get_or, All, Result, Ok, Err, refl, sym, ap, ap₂, ◌∙◌, arith}
 use Rattle.std.specs.Prelude.{slice_index}
-use Rattle.std.specs.List.{AllZip, enumerate_from, zip, list_any, filter_map}
+use Rattle.std.specs.List.{enumerate_from, zip, list_any, filter_map}
 use Rattle.std.specs.Result.{result_ok}
 use Rattle.std.proofs.lemmas.List.Elements.{All-head, All-tail}
 use Rattle.std.proofs.lemmas.Slice.Zip.{AllZip-long}
@@ -12,7 +12,7 @@ use Rattle.pcap_io.specs.declared.packet.Packet.{Packet}
 use Rattle.journal.specs.declared.setup.PacketPlan.{PacketPlan}
 use Rattle.plan.specs.Binding.{Binding}
 use Rattle.plan.specs.Grounds.{Grounds}
-use Rattle.plan.specs.Plans.{has_ends, bounds, uses_of, route_index, plan_of_bound, plan_if_bound, bytes_if_bound, cause_if_unbound, numbered}
+use Rattle.plan.specs.Plans.{has_ends, bounds, uses_of, route_index, plan_of_bound, plan_if_bound, bytes_if_bound, cause_if_unbound}
 use Rattle.plan.specs.Answers.{answer_of, answers_from, IsBindingBy, AreAnswered, uses_after, IsAnswer, bytes_if_answered, cause_of_answer}
 use Rattle.plan.proofs.FirstUses.{uses-push, each_used, index_stays, uses_few}
 

@@ -1,5 +1,5 @@
 -- The pipes of a distilled topology are arcs among its nodes.
-use Rattle.std.proofs.Common.{◌≡◌, ◌<◌, ℕ, zero, suc, List, [], ◌∷◌, length, get_or, map, All, sym, ◌∙◌, ap, subst, arith}
+use Rattle.std.proofs.Common.{◌≡◌, ℕ, zero, suc, List, [], ◌∷◌, All, sym, ◌∙◌, ap, subst, arith}
 use Rattle.routes.specs.declared.graph.Arc.{Arc}
 use Rattle.routes.specs.GraphView.{IsArcAmong}
 use Rattle.distill.specs.declared.pipes.DistilledPipe.{DistilledPipe}

@@ -1,10 +1,9 @@
 -- What follows of a packet that is bound: its ends are nodes, and its route is a least walk that isn't too long.
-use Rattle.std.proofs.Common.{◌≡◌, ◌≢◌, ◌<◌, ◌≤◌, ◌⊎◌, inl, inr, ℕ, suc, List, [], ◌∷◌, length, map, filter, Bool, true, false, cond, not, All, AllPairs, Option, Some, None, Result, Ok, Err, refl, sym, ap, ◌∙◌, subst, arith}
-use Rattle.std.specs.List.{AllZip, zip, filter_map}
+use Rattle.std.proofs.Common.{◌≡◌, ◌<◌, inl, inr, ℕ, List, [], ◌∷◌, length, filter, Bool, true, false, cond, not, All, Option, Some, None, Result, Ok, Err, refl, ap, subst}
+use Rattle.std.specs.List.{AllZip, zip}
 use Rattle.std.proofs.lemmas.List.Elements.{All-cons, All-nil, All-head, All-tail}
 use Rattle.std.proofs.lemmas.List.Quantifiers.{position-Some}
 use Rattle.mn_base.specs.Among.{Among}
-use Rattle.mn_base.specs.declared.limits.TheConstants.{ROUTE_PIPES_MAX}
 use Rattle.mn_base.specs.declared.causes.Unbound.{Unbound}
 use Rattle.topo.specs.declared.parts.Node.{Node}
 use Rattle.topo.specs.Nodes.{has_address, no_node}
@@ -12,7 +11,7 @@ use Rattle.routes.specs.declared.graph.Arc.{Arc}
 use Rattle.ip_bind.specs.Frames.{addresses_of}
 use Rattle.ip_bind.specs.Books.{node_with_address}
 use Rattle.plan.specs.Binding.{Binding, both_nodes, nodes_of_addresses, ends_of, IsRouted, IsBinding}
-use Rattle.plan.specs.Plans.{has_ends, bound, bounds, first_uses, uses_of}
+use Rattle.plan.specs.Plans.{has_ends, bounds, first_uses, uses_of}
 
 -- a node that is found is one of the nodes
 found_below : (nodes : List Node) (address v : ℕ) → node_with_address nodes address ≡ Some v → v < length nodes

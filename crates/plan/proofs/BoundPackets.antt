@@ -1,5 +1,5 @@
 -- The bound packets of a trace one by one: their numbers rise, and what holds of each packet beside its binding holds of its plan.
-use Rattle.std.proofs.Common.{◌≡◌, ◌<◌, ◌≤◌, ◌+◌, ◌⊎◌, inl, inr, ℕ, zero, suc, List, [], ◌∷◌, length, get_or, All, AllPairs, Option, Some, None, Result, Ok, Err, refl, ap, subst, arith}
+use Rattle.std.proofs.Common.{◌<◌, ◌≤◌, ◌+◌, inl, inr, ℕ, List, [], ◌∷◌, length, All, AllPairs, Result, Ok, Err, refl, arith}
 use Rattle.std.specs.List.{zip, enumerate_from, filter_map}
 use Rattle.std.proofs.lemmas.List.Elements.{All-cons, All-nil}
 use Rattle.std.proofs.lemmas.List.Kept.{AllPairs-cons}

@@ -1,5 +1,5 @@
 -- An input has a plan or one first fault.
-use Rattle.std.proofs.Common.{◌≡◌, ◌<◌, ◌≤◌, ℕ, List, length, Option, Some, None, Result, Ok, Err, IfOk, IfErr, refl, sym, ap, ◌∙◌, subst, arith}
+use Rattle.std.proofs.Common.{◌≡◌, ◌<◌, ◌≤◌, ℕ, List, length, Option, Some, None, Result, Ok, Err, IfOk, IfErr, ap, subst, arith}
 use Rattle.mn_base.specs.declared.limits.TheConstants.{PIPES_MAX}
 use Rattle.mn_base.specs.declared.refusal.Refusal.{Refusal}
 use Rattle.mn_base.specs.declared.refusal.Refusal.TheVariants as refusal
@@ -18,7 +18,7 @@ use Rattle.ownership.specs.Faults.{DirectoryFirst}
 use Rattle.plan.specs.declared.faults.PlanFault.{PlanFault}
 use Rattle.plan.specs.declared.faults.PlanFault.TheVariants.{TooManyPipes, Changes, Assign}
 use Rattle.plan.specs.declared.options.Options.{Options}
-use Rattle.plan.specs.Faults.{HasAssignFault, TextFirst, DirectingFirst, HasTextFault, PlanFirst}
+use Rattle.plan.specs.Faults.{TextFirst, DirectingFirst, HasTextFault, PlanFirst}
 use Rattle.plan.specs.Setups.{AreDirected, IsDirectedBy, IsPlan}
 use Rattle.plan.specs.PlannedView.{PlannedView}
 use Rattle.distill.proofs.OneDistilled.{one_distilled}

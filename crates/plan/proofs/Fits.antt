@@ -1,5 +1,5 @@
 -- A directory of a distilled topology fits it: owners and entry cores are below the number of cores, one for each pipe and each node.
-use Rattle.std.proofs.Common.{◌≡◌, ◌<◌, ◌≤◌, ◌==◌, ⊎_elim, ℕ, suc, true, false, List, [], ◌∷◌, length, get_or, map, find, All, AllPairs, Option, Some, None, refl, sym, ap, ◌∙◌, subst, arith}
+use Rattle.std.proofs.Common.{◌≡◌, ◌<◌, ◌≤◌, ⊎_elim, ℕ, true, false, List, [], length, find, All, AllPairs, Option, Some, None, sym, ap, ◌∙◌, subst, arith}
 use Rattle.std.specs.Prelude.{slice_index, MatchBool, Bool}
 use Rattle.std.specs.List.{range_with_len}
 use Rattle.std.specs.Option.{option_map_or}
@@ -7,14 +7,12 @@ use Rattle.std.proofs.lemmas.Bool.{cases_lt}
 use Rattle.std.proofs.lemmas.List.{get_or_past, get_or_default}
 use Rattle.std.proofs.lemmas.List.Elements.{All-nil}
 use Rattle.std.proofs.lemmas.List.FromFn.{get_or-map-range_with_len, length-map-range_with_len}
-use Rattle.mn_base.specs.Among.{Among}
 use Rattle.mn_base.proofs.Members.{All-Among}
-use Rattle.distill.specs.declared.pipes.DistilledPipe.{DistilledPipe}
 use Rattle.distill.specs.Distilled.{DistilledView}
 use Rattle.changes.specs.declared.split.Change.{Change}
 use Rattle.changes.specs.Changes.{IsChange, PrecedesChange}
 use Rattle.changes.specs.SplitView.{SplitView}
-use Rattle.changes.specs.Splits.{IsSecond, IsOther, SplitsTo, AreChangeLines}
+use Rattle.changes.specs.Splits.{IsSecond, IsOther, SplitsTo}
 use Rattle.changes.specs.Faults.{is_second}
 use Rattle.ownership.specs.Owned.{Owned}
 use Rattle.ownership.specs.Directory.{DirectoryView}

@@ -1,5 +1,5 @@
 -- Steps of the loops that make the parts of a setup.
-use Rattle.std.proofs.Common.{◌≡◌, ◌<◌, ◌≤◌, ◌+◌, ◌++◌, zero, suc, ℕ, List, [], ◌∷◌, length, take, get_or, Option, Some, None, Result, Ok, Err, refl, sym, ◌∙◌, ap, subst, arith}
+use Rattle.std.proofs.Common.{◌≡◌, ◌<◌, ◌+◌, ◌++◌, suc, ℕ, List, [], ◌∷◌, length, take, get_or, Result, Ok, Err, ◌∙◌, ap, arith}
 use Rattle.std.specs.List.{AllZip, enumerate_from, filter_map}
 use Rattle.std.proofs.lemmas.List.{take_more, length-take-le, append-nil}
 use Rattle.std.proofs.lemmas.List.Elements.{filter_map-append}

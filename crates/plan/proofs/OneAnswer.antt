@@ -1,12 +1,12 @@
 -- What becomes of one packet, by its ends and what the router answers.
-use Rattle.std.proofs.Common.{◌≡◌, inl, inr, ℕ, List, length, Result, Ok, Err, refl, sym, ◌∙◌, ap}
+use Rattle.std.proofs.Common.{◌≡◌, inl, inr, ℕ, List, Ok, Err, refl}
 use Rattle.std.specs.Prelude.{slice_index}
 use Rattle.mn_base.specs.declared.causes.Unbound.{Unbound}
 use Rattle.mn_base.specs.Times.{entry_tick_of}
 use Rattle.pcap_io.specs.declared.packet.Packet.{Packet}
 use Rattle.plan.specs.Binding.{Binding, ends_of}
 use Rattle.plan.specs.Grounds.{Grounds}
-use Rattle.plan.specs.Router.{IsRouterAnswer, Uses}
+use Rattle.plan.specs.Router.{IsRouterAnswer}
 use Rattle.plan.specs.Answers.{IsAnswer}
 
 pub unbound_by_ends : (by : Grounds) (uses : List Binding) (number : ℕ) (packet : Packet) (cause : Unbound)

@@ -1,14 +1,13 @@
 -- The setup of a plan keeps the conditions of a setup.
-use Rattle.std.proofs.Common.{◌≡◌, ◌≢◌, ◌≤◌, ◌<◌, ◌+◌, ◌-◌, ◌*◌, ◌⊎◌, inl, inr, ⊎_elim, ℕ, zero, suc, true, List, [], ◌∷◌, ◌++◌, length, get_or, map, take, drop, All, AllPairs, Option, Some, None, Result, Ok, Err, refl, sym, ◌∙◌, ap, subst, arith}
-use Rattle.std.specs.Prelude.{slice_index}
-use Rattle.std.specs.List.{AllZip, zip, list_any}
+use Rattle.std.proofs.Common.{◌≡◌, ◌≢◌, ◌≤◌, ◌<◌, ◌+◌, ◌-◌, ◌*◌, inl, inr, ℕ, suc, true, List, [], ◌∷◌, length, map, All, AllPairs, Result, Ok, sym, ◌∙◌, ap, subst, arith}
+use Rattle.std.specs.List.{AllZip, list_any}
 use Rattle.std.proofs.Math.Nat.{div-mul-le_self}
-use Rattle.std.proofs.lemmas.List.{get_or-map, length-map}
+use Rattle.std.proofs.lemmas.List.{length-map}
 use Rattle.std.proofs.lemmas.List.Elements.{All-cons, All-nil, All-head, All-tail}
 use Rattle.std.proofs.lemmas.List.Kept.{AllPairs-cons}
 use Rattle.mn_base.specs.Among.{Among}
 use Rattle.mn_base.proofs.Members.{All-Among}
-use Rattle.mn_base.specs.declared.limits.TheConstants.{CORES_MAX, PIPES_MAX, ROUTE_PIPES_MAX, PACKETS_MAX, PACKET_BYTES_MAX, TIME_NS_END, ROUTE_DELAY_NS_END, OUTPUT_NS_END}
+use Rattle.mn_base.specs.declared.limits.TheConstants.{ROUTE_PIPES_MAX, PACKETS_MAX, PACKET_BYTES_MAX, TIME_NS_END, ROUTE_DELAY_NS_END, OUTPUT_NS_END}
 use Rattle.mn_base.specs.declared.params.PipeParams.{PipeParams}
 use Rattle.mn_base.specs.declared.causes.Unbound.{Unbound}
 use Rattle.mn_base.specs.Units.{latency_in_ticks}
@@ -31,7 +30,7 @@ use Rattle.plan.specs.declared.options.Options.{Options}
 use Rattle.plan.specs.Options.{AreOptions}
 use Rattle.distill.specs.Latency.{arc_of_pipe, arcs_of_pipes}
 use Rattle.plan.specs.Binding.{Binding, IsRouted, IsBinding}
-use Rattle.plan.specs.Plans.{has_ends, bounds, uses_of, plan_of_bound, bound_packets}
+use Rattle.plan.specs.Plans.{has_ends, bounds, uses_of, plan_of_bound}
 use Rattle.plan.specs.Grounds.{AreFit}
 use Rattle.plan.specs.Setups.{IsChangeTo, IsSetupOf, AreBindings}
 use Rattle.plan.proofs.FirstUses.{each_used, place_below}

@@ -1,18 +1,18 @@
 -- What a router knows: the answers so far hold, also when a route more is used.
-use Rattle.std.proofs.Common.{◌≡◌, ◌<◌, ◌==◌, ⊎_elim, ℕ, Bool, true, false, cond, ◌&&◌, ◌||◌, List, [], ◌∷◌, ◌++◌, length, get_or, All, Option, Some, None, Result, Ok, Err, nat_lt, refl, sym, ap, ap₂, ◌∙◌, subst, arith}
+use Rattle.std.proofs.Common.{◌≡◌, ◌<◌, ◌==◌, ℕ, Bool, true, false, cond, ◌&&◌, ◌||◌, List, [], ◌∷◌, ◌++◌, length, get_or, Option, Some, None, Result, Ok, Err, nat_lt, refl, sym, ap, ap₂, ◌∙◌, subst, arith}
 use Rattle.std.specs.List.{list_any, position_or_len}
 use Rattle.std.specs.declared.cmp.Ordering.{Ordering}
 use Rattle.std.specs.Ordering.{nat_cmp, ordering_then, is_eq}
 use Rattle.std.specs.declared.cmp.Ordering.TheVariants.{Less, Equal, Greater}
-use Rattle.std.specs.BTreeMap.{BTreeMap, get, is_at}
-use Rattle.std.proofs.lemmas.Bool.{and_parts, eqb-true, ltb-true, or_from, true≢false, false≢true, false_from_ne_true}
+use Rattle.std.specs.BTreeMap.{is_at}
+use Rattle.std.proofs.lemmas.Bool.{and_parts, eqb-true, ltb-true, or_from}
 use Rattle.std.proofs.lemmas.List.Elements.{All-push, All-nil}
 use Rattle.std.proofs.lemmas.List.Sums.{passes_at_first}
 use Rattle.mn_base.specs.declared.causes.Unbound.{Unbound}
 use Rattle.routes.specs.declared.graph.Arc.{Arc}
 use Rattle.plan.specs.Binding.{Binding, IsRouted}
-use Rattle.plan.specs.Plans.{joins, has_ends}
-use Rattle.plan.specs.Router.{with_use, IsKnownAnswer, IsRouter, Uses, IsRouterAnswer, IsFirstAnswer}
+use Rattle.plan.specs.Plans.{joins}
+use Rattle.plan.specs.Router.{IsKnownAnswer, IsRouter, Uses, IsRouterAnswer, IsFirstAnswer}
 use Rattle.journal.specs.Entries.{pair_cmp}
 use Rattle.plan.proofs.FirstUses.{joined_ends, ends_joined, place_below, place_stays, place_new, any_push}
 

@@ -1,11 +1,10 @@
 -- The setup, the bytes and the causes of a trace whose packets are answered are those of its bindings.
-use Rattle.std.proofs.Common.{◌≡◌, ℕ, List, [], ◌∷◌, length, map, Result, refl, sym, ap, ◌∙◌, subst}
+use Rattle.std.proofs.Common.{◌≡◌, ℕ, List, [], ◌∷◌, map, Result, refl, sym, ap, ◌∙◌, subst}
 use Rattle.std.specs.List.{zip, enumerate_from, filter_map}
 use Rattle.std.specs.Result.{result_ok}
 use Rattle.std.proofs.lemmas.Slice.Zip.{AllZip-long}
 use Rattle.mn_base.specs.declared.causes.Unbound.{Unbound}
 use Rattle.topo.specs.TopologyView.{TopologyView}
-use Rattle.pcap_io.specs.declared.packet.Packet.{Packet}
 use Rattle.pcap_io.specs.Capture.{Capture, trace_base}
 use Rattle.distill.specs.Distilled.{DistilledView}
 use Rattle.changes.specs.declared.split.Change.{Change}
@@ -15,8 +14,8 @@ use Rattle.journal.specs.SetupView.{SetupView}
 use Rattle.plan.specs.declared.options.Options.{Options}
 use Rattle.plan.specs.Binding.{Binding}
 use Rattle.plan.specs.Grounds.{Grounds, grounds_of}
-use Rattle.plan.specs.Plans.{uses_of, plan_if_bound, bound_bytes, unbound_packets}
-use Rattle.plan.specs.Answers.{AreAnswered, IsBindingBy, answers_from, bytes_if_answered, cause_of_answer}
+use Rattle.plan.specs.Plans.{plan_if_bound}
+use Rattle.plan.specs.Answers.{AreAnswered, IsBindingBy, bytes_if_answered, cause_of_answer}
 use Rattle.plan.specs.Setups.{IsSetupWith, IsSetupOf, IsPlanOver}
 use Rattle.plan.specs.PlannedView.{PlannedView}
 use Rattle.plan.proofs.AllAnswers.{bound_by, bytes_by, causes_by}

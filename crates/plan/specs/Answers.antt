@@ -1,5 +1,5 @@
 -- What becomes of the packets of a trace: each as it enters, or why it isn't bound.
-use Rattle.std.specs.Prelude.{◌≡◌, ℕ, List, length, map, Option, Some, None, Result, Ok, Err}
+use Rattle.std.specs.Prelude.{◌≡◌, ℕ, List, map, Option, Some, None, Result, Ok, Err}
 use Rattle.std.specs.List.{AllZip, enumerate_from, zip}
 use Rattle.mn_base.specs.declared.causes.Unbound.{Unbound}
 use Rattle.pcap_io.specs.declared.packet.Packet.{Packet}

@@ -1,5 +1,5 @@
 -- What a packet is bound to: two edge nodes and the least route between them, or the first cause why it has none.
-use Rattle.std.specs.Prelude.{◌≡◌, ◌⊎◌, ℕ, ◌<◌, ◌≤◌, List, length, map, Option, Some, None, Result, Ok, Err}
+use Rattle.std.specs.Prelude.{◌≡◌, ◌⊎◌, ℕ, ◌<◌, ◌≤◌, List, length, Option, Some, None, Result, Ok, Err}
 use Rattle.mn_base.specs.declared.limits.TheConstants.{ROUTE_PIPES_MAX}
 use Rattle.mn_base.specs.declared.causes.Unbound.{Unbound}
 use Rattle.mn_base.specs.declared.causes.Unbound.TheVariants.{Short, NotIpv4, NoSource, NoDestination, NoRoute, TooFar}

@@ -1,5 +1,5 @@
 -- Why an input has no plan: the pipes are too many, or the directory text has a fault.
-use Rattle.std.specs.Prelude.{◌≡◌, ℕ, ◌<◌, ◌≤◌, List, length, Option, Some, None}
+use Rattle.std.specs.Prelude.{ℕ, ◌<◌, ◌≤◌, List, length, Option, Some, None}
 use Rattle.mn_base.specs.declared.limits.TheConstants.{PIPES_MAX}
 use Rattle.topo.specs.TopologyView.{TopologyView}
 use Rattle.distill.specs.Distilled.{DistilledView, IsDistilled}

@@ -1,5 +1,5 @@
 -- What a run is asked for, and its ranges.
-use Rattle.std.specs.Prelude.{ℕ, ◌≤◌}
+use Rattle.std.specs.Prelude.{◌≤◌}
 use Rattle.mn_base.specs.Ranges.{IsTickLength}
 use Rattle.mn_base.specs.declared.limits.TheConstants.{CORES_MAX}
 use Rattle.distill.specs.Modes.{IsMode}

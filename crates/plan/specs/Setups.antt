@@ -10,7 +10,6 @@ use Rattle.topo.specs.TopologyView.{TopologyView}
 use Rattle.pcap_io.specs.Capture.{Capture, trace_base}
 use Rattle.distill.specs.Distilled.{DistilledView, IsDistilled}
 use Rattle.changes.specs.declared.split.Change.{Change}
-use Rattle.changes.specs.SplitView.{SplitView}
 use Rattle.changes.specs.Splits.{SplitsTo}
 use Rattle.ownership.specs.Directory.{DirectoryView}
 use Rattle.ownership.specs.Assignment.{assignment}

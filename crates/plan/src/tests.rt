@@ -9,7 +9,7 @@ use changes::ChangesFault;
 use distill::Mode;
 use journal::LossBy;
 use mn_base::limits::{LINK_TYPE_ETHERNET, LINK_TYPE_RAW, TICK_NS_DEFAULT};
-use mn_base::{Refusal, Unbound};
+use mn_base::{NoMemory, Refusal, Unbound};
 use ownership::AssignFault;
 use pcap_io::read_pcap;
 use std::alloc::Global;
@@ -34,6 +34,18 @@ const STUB: EdgeSpec = EdgeSpec {
     ppm: 0,
 };
 
+/// Nodes that are numbered from 0, with these addresses.
+fn nodes_with(alloc: Global, addresses: &[Option<u32>]) -> Result<Vec<Node>, NoMemory> {
+    let mut nodes = Vec::new(alloc);
+    for (id, address) in addresses.iter().enumerate() {
+        nodes.push(Node {
+            id: id as u64,
+            address: *address,
+        })?;
+    }
+    Ok(nodes)
+}
+
 /// Nodes 0 and 1 (10.0.0.1, 10.0.0.2) behind node 2, nodes 4 and 5 (10.0.1.1, 10.0.1.2) behind node 3, and a slow link between.
 fn two_stubs(alloc: Global) -> Result<Topology, Refusal<TopoFault>> {
     let addresses = [
@@ -44,13 +56,7 @@ fn two_stubs(alloc: Global) -> Result<Topology, Refusal<TopoFault>> {
         Some(0x0a00_0101),
         Some(0x0a00_0102),
     ];
-    let mut nodes = Vec::new(alloc);
-    for (id, address) in addresses.iter().enumerate() {
-        nodes.push(Node {
-            id: id as u64,
-            address: *address,
-        })?;
-    }
+    let nodes = nodes_with(alloc, &addresses)?;
     let edges = vec![in alloc;
         STUB,
         EdgeSpec { source: 1, ..STUB },
@@ -80,7 +86,7 @@ fn two_stubs(alloc: Global) -> Result<Topology, Refusal<TopoFault>> {
 }
 
 /// A capture in ns, so far without a record.
-fn capture(alloc: Global, link_type: u32) -> Result<Vec<u8>, Fail> {
+fn capture(alloc: Global, link_type: u32) -> Result<Vec<u8>, NoMemory> {
     let mut text = Vec::new(alloc);
     text.extend_from_slice(&[
         0x4d, 0x3c, 0xb2, 0xa1, 2, 0, 4, 0, 0, 0, 0, 0, 0, 0, 0, 0, 0, 0, 4, 0,
@@ -90,7 +96,7 @@ fn capture(alloc: Global, link_type: u32) -> Result<Vec<u8>, Fail> {
 }
 
 /// A record of a packet of 1,250 bytes at a time in ns below a second, of which these bytes were captured.
-fn push_record(text: &mut Vec<u8>, time_ns: u32, captured: &[u8]) -> Result<(), Fail> {
+fn push_record(text: &mut Vec<u8>, time_ns: u32, captured: &[u8]) -> Result<(), NoMemory> {
     let len = captured.len().min(1_000) as u32;
     for number in [0, time_ns, len, 1_250] {
         text.extend_from_slice(&number.to_le_bytes())?;
@@ -109,7 +115,12 @@ fn header(from: [u8; 4], to: [u8; 4]) -> [u8; 20] {
 }
 
 /// A record of an Ethernet frame that carries such a header.
-fn push_frame(alloc: Global, text: &mut Vec<u8>, from: [u8; 4], to: [u8; 4]) -> Result<(), Fail> {
+fn push_frame(
+    alloc: Global,
+    text: &mut Vec<u8>,
+    from: [u8; 4],
+    to: [u8; 4],
+) -> Result<(), NoMemory> {
     let mut frame = Vec::new(alloc);
     frame.extend_from_slice(&[0, 0, 0, 0, 0, 0, 0, 0, 0, 0, 0, 0, 8, 0])?;
     frame.extend_from_slice(&header(from, to))?;
@@ -122,7 +133,7 @@ fn push_other(
     text: &mut Vec<u8>,
     len: usize,
     ether_type: [u8; 2],
-) -> Result<(), Fail> {
+) -> Result<(), NoMemory> {
     let mut frame = vec![in alloc; 0u8; len]?;
     if frame.len() > 13 {
         frame[12] = ether_type[0];
@@ -167,9 +178,8 @@ fn plan_of(
     }
 }
 
-#[test]
-fn one_packet_of_six_is_bound(rt: HostRuntime) -> Result<(), Fail> {
-    let alloc = rt.alloc();
+/// Frames of which the fourth alone can be bound.
+fn six_frames(alloc: Global) -> Result<Vec<u8>, NoMemory> {
     let mut text = capture(alloc, LINK_TYPE_ETHERNET)?;
     push_other(alloc, &mut text, 42, [8, 6])?;
     push_other(alloc, &mut text, 60, [0x86, 0xdd])?;
@@ -177,8 +187,35 @@ fn one_packet_of_six_is_bound(rt: HostRuntime) -> Result<(), Fail> {
     push_frame(alloc, &mut text, A, C)?;
     push_other(alloc, &mut text, 33, [8, 0])?;
     push_frame(alloc, &mut text, NOBODY, C)?;
+    Ok(text)
+}
+
+/// Packets of four pairs of addresses, one of them from a node to itself.
+fn six_packets(alloc: Global) -> Result<Vec<u8>, NoMemory> {
+    let mut text = capture(alloc, LINK_TYPE_RAW)?;
+    for (time_ns, from, to) in [
+        (900_000, B, D),
+        (450_000, A, C),
+        (200_000, B, D),
+        (300_000, A, A),
+        (399_999, A, C),
+        (500_000, C, A),
+    ] {
+        push_record(&mut text, time_ns, &header(from, to))?;
+    }
+    Ok(text)
+}
+
+/// The plan of a capture over the two stubs, on two cores.
+fn planned_over_stubs(rt: &impl Abort, alloc: Global, text: &[u8]) -> Result<Planned, Fail> {
     let topology = two_stubs(alloc)?;
-    let planned = plan_of(alloc, &topology, &text, &OPTIONS, Some(OWNERS))?.expect(&rt, "a plan");
+    Ok(plan_of(alloc, &topology, text, &OPTIONS, Some(OWNERS))?.expect(rt, "a plan"))
+}
+
+#[test]
+fn one_packet_of_six_is_bound(rt: HostRuntime) -> Result<(), Fail> {
+    let text = six_frames(rt.alloc())?;
+    let planned = planned_over_stubs(&rt, rt.alloc(), &text)?;
     let expected = [
         (0, Unbound::NotIpv4),
         (1, Unbound::NotIpv4),
@@ -188,29 +225,27 @@ fn one_packet_of_six_is_bound(rt: HostRuntime) -> Result<(), Fail> {
     ];
     assert_eq!(rt; planned.unbounds.as_slice(), expected.as_slice());
     let parts = planned.setup.parts();
-    assert!(rt; parts.packets.len() == 1);
-    assert_eq!(rt; parts.packets[0].number, 3);
-    assert_eq!(rt; parts.packets[0].len, 1_250);
-    assert_eq!(rt; parts.packets[0].core, 0);
-    assert!(rt; parts.routes.len() == 1);
+    assert!(rt; parts.packets.len() == 1 && parts.routes.len() == 1 && planned.bytes.len() == 1);
+    let packet = parts.packets[0];
+    assert_eq!(rt; (packet.number, packet.len, packet.core), (3, 1_250, 0));
     assert_eq!(rt; parts.routes[0].as_slice(), [0, 8, 4].as_slice());
-    assert!(rt; planned.bytes.len() == 1);
     assert_eq!(rt; planned.bytes[0].as_slice().len(), 34);
     Ok(())
 }
 
+/// The tick at which each packet enters, the number of its route, and its core.
+fn entries(alloc: Global, planned: &Planned) -> Result<Vec<(u64, u32, u32)>, NoMemory> {
+    let mut entries = Vec::new(alloc);
+    for plan in &planned.setup.parts().packets {
+        entries.push((plan.entry_tick, plan.route, plan.core))?;
+    }
+    Ok(entries)
+}
+
 #[test]
 fn packets_of_two_pairs_share_two_routes(rt: HostRuntime) -> Result<(), Fail> {
-    let alloc = rt.alloc();
-    let mut text = capture(alloc, LINK_TYPE_RAW)?;
-    push_record(&mut text, 900_000, &header(B, D))?;
-    push_record(&mut text, 450_000, &header(A, C))?;
-    push_record(&mut text, 200_000, &header(B, D))?;
-    push_record(&mut text, 300_000, &header(A, A))?;
-    push_record(&mut text, 399_999, &header(A, C))?;
-    push_record(&mut text, 500_000, &header(C, A))?;
-    let topology = two_stubs(alloc)?;
-    let planned = plan_of(alloc, &topology, &text, &OPTIONS, Some(OWNERS))?.expect(&rt, "a plan");
+    let text = six_packets(rt.alloc())?;
+    let planned = planned_over_stubs(&rt, rt.alloc(), &text)?;
     let parts = planned.setup.parts();
     assert_eq!(rt; parts.base_ns, 200_000);
     assert!(rt; parts.routes.len() == 4);
@@ -218,10 +253,6 @@ fn packets_of_two_pairs_share_two_routes(rt: HostRuntime) -> Result<(), Fail> {
     assert_eq!(rt; parts.routes[1].as_slice(), [0, 8, 4].as_slice());
     assert_eq!(rt; parts.routes[2].len(), 0);
     assert_eq!(rt; parts.routes[3].as_slice(), [5, 9, 1].as_slice());
-    let mut entries = Vec::new(alloc);
-    for plan in &parts.packets {
-        entries.push((plan.entry_tick, plan.route, plan.core))?;
-    }
     let expected = [
         (7, 0, 0),
         (2, 1, 0),
@@ -230,6 +261,7 @@ fn packets_of_two_pairs_share_two_routes(rt: HostRuntime) -> Result<(), Fail> {
         (1, 1, 0),
         (3, 3, 1),
     ];
+    let entries = entries(rt.alloc(), &planned)?;
     assert_eq!(rt; entries.as_slice(), expected.as_slice());
     Ok(())
 }
@@ -323,39 +355,98 @@ const ONE_CORE: Options = Options {
     ..OPTIONS
 };
 
-#[test]
-fn a_change_of_a_pipe(rt: HostRuntime) -> Result<(), Fail> {
-    let alloc = rt.alloc();
+/// The plan of two packets over the one link, whose first pipe changes at tick 5.
+fn planned_with_a_change(rt: &impl Abort, alloc: Global) -> Result<Planned, Fail> {
+    const DIRECTORY: &[u8] = b"modelnet-directory 2 cores 1 pipes 2 changes 1\n\
+        pipe 0 core 0\npipe 1 core 0\n\
+        change tick 5 pipe 0 bps 80000000 us 1000 queue 50 ppm 0\n";
     let topology = one_link(alloc)?;
     let mut text = capture(alloc, LINK_TYPE_RAW)?;
     push_record(&mut text, 0, &header(A, B))?;
     push_record(&mut text, 500_000, &header(A, B))?;
-    let directory = b"modelnet-directory 2 cores 1 pipes 2 changes 1\n\
-        pipe 0 core 0\npipe 1 core 0\n\
-        change tick 5 pipe 0 bps 80000000 us 1000 queue 50 ppm 0\n";
-    let planned = plan_of(
-        alloc,
-        &topology,
-        &text,
-        &ONE_CORE,
-        Some(directory.as_slice()),
-    )?
-    .expect(&rt, "a plan");
+    Ok(plan_of(alloc, &topology, &text, &ONE_CORE, Some(DIRECTORY))?.expect(rt, "a plan"))
+}
+
+#[test]
+fn a_change_of_a_pipe(rt: HostRuntime) -> Result<(), Fail> {
+    let planned = planned_with_a_change(&rt, rt.alloc())?;
     let parts = planned.setup.parts();
-    assert!(rt; parts.changes.len() == 1);
+    assert!(rt; parts.changes.len() == 1 && parts.pipes.len() == 2 && parts.packets.len() == 2);
     let change = parts.changes[0];
-    assert_eq!(rt; (change.tick, change.pipe), (5, 0));
     let params = change.params;
     assert_eq!(rt;
-        (params.bps, params.latency_us, params.latency_ticks),
-        (80_000_000, 1_000, 10)
+        (change.tick, change.pipe, params.bps, params.latency_us),
+        (5, 0, 80_000_000, 1_000)
     );
-    assert_eq!(rt; (params.queue, params.keep), (50, 1 << 32));
-    assert!(rt; parts.pipes.len() == 2);
+    assert_eq!(rt;
+        (params.latency_ticks, params.queue, params.keep),
+        (10, 50, 1 << 32)
+    );
     let first = parts.pipes[0];
     assert_eq!(rt; (first.bps, first.latency_ticks), (8_000_000, 50));
-    assert!(rt; parts.packets.len() == 2);
     assert_eq!(rt; parts.packets[1].entry_tick, 5);
+    Ok(())
+}
+
+/// Nodes 0, 1 and 3 (10.0.0.1, 10.0.0.2, 10.0.0.3) around node 2.
+fn three_spokes(alloc: Global) -> Result<Topology, Refusal<TopoFault>> {
+    const SPOKE: EdgeSpec = EdgeSpec {
+        bps: 8_000_000,
+        latency_us: 5_000,
+        ..STUB
+    };
+    let addresses = [
+        Some(0x0a00_0001),
+        Some(0x0a00_0002),
+        None,
+        Some(0x0a00_0003),
+    ];
+    let nodes = nodes_with(alloc, &addresses)?;
+    let edges = vec![in alloc;
+        SPOKE,
+        EdgeSpec { source: 1, ..SPOKE },
+        EdgeSpec {
+            source: 2,
+            target: 3,
+            ..SPOKE
+        },
+    ]?;
+    if nodes.len() > 10 || edges.len() > 10 {
+        return Err(Refusal::NoMemory);
+    }
+    Topology::new(alloc, nodes, edges, false)
+}
+
+/// The plan of two packets from two spokes to the third, on three cores. A pipe changes when both have left.
+fn planned_with_a_late_change(rt: &impl Abort, alloc: Global) -> Result<Planned, Fail> {
+    const DIRECTORY: &[u8] = b"modelnet-directory 2 cores 3 pipes 6 changes 1\n\
+        pipe 0 core 0\npipe 1 core 0\npipe 2 core 1\npipe 3 core 1\npipe 4 core 2\npipe 5 core 2\n\
+        change tick 1000 pipe 0 bps 8000000 us 0 queue 50 ppm 0\n";
+    const LAST: [u8; 4] = [10, 0, 0, 3];
+    let topology = three_spokes(alloc)?;
+    let mut text = capture(alloc, LINK_TYPE_RAW)?;
+    push_record(&mut text, 0, &header(A, LAST))?;
+    push_record(&mut text, 0, &header(B, LAST))?;
+    let options = Options {
+        cores: 3,
+        ..ONE_CORE
+    };
+    Ok(plan_of(alloc, &topology, &text, &options, Some(DIRECTORY))?.expect(rt, "a plan"))
+}
+
+#[test]
+fn a_change_after_the_last_packet(rt: HostRuntime) -> Result<(), Fail> {
+    let planned = planned_with_a_late_change(&rt, rt.alloc())?;
+    let parts = planned.setup.parts();
+    assert_eq!(rt; parts.owners.as_slice(), [0, 0, 1, 1, 2, 2].as_slice());
+    assert!(rt; parts.changes.len() == 1);
+    let change = parts.changes[0];
+    assert_eq!(rt;
+        (change.tick, change.pipe, change.params.latency_ticks),
+        (1_000, 0, 1)
+    );
+    let entries = entries(rt.alloc(), &planned)?;
+    assert_eq!(rt; entries.as_slice(), [(0, 0, 0), (0, 1, 1)].as_slice());
     Ok(())
 }
 
@@ -368,6 +459,18 @@ fn fault_of(alloc: Global, directory: &[u8]) -> Result<Option<PlanFault>, Fail>
     Ok(plan_of(alloc, &topology, &text, &ONE_CORE, Some(directory))?.err())
 }
 
+/// A directory text with this count of changes, line for the second pipe, and change.
+fn directory(alloc: Global, count: u8, second: &[u8], change: &[u8]) -> Result<Vec<u8>, NoMemory> {
+    let mut text = Vec::new(alloc);
+    text.extend_from_slice(b"modelnet-directory 2 cores 1 pipes 2 changes ")?;
+    text.push(count)?;
+    text.extend_from_slice(b"\npipe 0 core 0\n")?;
+    text.extend_from_slice(second)?;
+    text.push(b'\n')?;
+    text.extend_from_slice(change)?;
+    Ok(text)
+}
+
 #[test]
 fn faults_of_a_directory_text(rt: HostRuntime) -> Result<(), Fail> {
     const CHANGE: &[u8] = b"change tick 1000 pipe 0 bps 8000000 us 0 queue 50 ppm 0";
@@ -375,56 +478,31 @@ fn faults_of_a_directory_text(rt: HostRuntime) -> Result<(), Fail> {
     const LONG: &[u8] = b"change tick 1000 pipe 0 bps 8000000 us 10000001 queue 50 ppm 0";
     const ONE: &[u8] = b"pipe 1 core 0";
     const TWICE: &[u8] = b"pipe 0 core 0";
+    const COUNT: PlanFault = PlanFault::Changes(ChangesFault::Count);
+    const LINE: PlanFault = PlanFault::Changes(ChangesFault::Line(4));
+    const RANGE: PlanFault = PlanFault::Changes(ChangesFault::Range(4));
     for (count, second, change, fault) in [
         (b'1', ONE, CHANGE, None),
-        (
-            b'2',
-            ONE,
-            CHANGE,
-            Some(PlanFault::Changes(ChangesFault::Count)),
-        ),
-        (
-            b'1',
-            ONE,
-            OTHER_PIPE,
-            Some(PlanFault::Changes(ChangesFault::Line(4))),
-        ),
-        (
-            b'1',
-            ONE,
-            LONG,
-            Some(PlanFault::Changes(ChangesFault::Range(4))),
-        ),
+        (b'2', ONE, CHANGE, Some(COUNT)),
+        (b'1', ONE, OTHER_PIPE, Some(LINE)),
+        (b'1', ONE, LONG, Some(RANGE)),
         (
             b'1',
             TWICE,
             CHANGE,
             Some(PlanFault::Assign(AssignFault::Twice(3))),
         ),
-        (
-            b'1',
-            TWICE,
-            LONG,
-            Some(PlanFault::Changes(ChangesFault::Range(4))),
-        ),
+        (b'1', TWICE, LONG, Some(RANGE)),
     ] {
-        let mut text = Vec::new(rt.alloc());
-        text.extend_from_slice(b"modelnet-directory 2 cores 1 pipes 2 changes ")?;
-        text.push(count)?;
-        text.extend_from_slice(b"\npipe 0 core 0\n")?;
-        text.extend_from_slice(second)?;
-        text.push(b'\n')?;
-        text.extend_from_slice(change)?;
+        let text = directory(rt.alloc(), count, second, change)?;
         assert!(rt; text.len() < 1_000);
         assert_eq!(rt; fault_of(rt.alloc(), &text)?, fault);
     }
     Ok(())
 }
 
-/// One node with an address beside 513 others around a node: too many pairs of those for the pipes of a run.
-#[test]
-fn too_many_pipes(rt: HostRuntime) -> Result<(), Fail> {
-    let alloc = rt.alloc();
+/// Node 0 with an address, and 513 others between it and node 1.
+fn wheel(alloc: Global) -> Result<Topology, Refusal<TopoFault>> {
     let mut nodes = Vec::new(alloc);
     let mut edges = Vec::new(alloc);
     for id in 0..515 {
@@ -445,10 +523,18 @@ fn too_many_pipes(rt: HostRuntime) -> Result<(), Fail> {
             })?;
         }
     }
-    assert!(rt; nodes.len() == 515 && edges.len() == 1_026);
-    let topology = Topology::new(alloc, nodes, edges, false)?;
-    let text = capture(alloc, LINK_TYPE_RAW)?;
-    let fault = plan_of(alloc, &topology, &text, &OPTIONS, None)?.err();
+    if nodes.len() > 1_000 || edges.len() > 2_000 {
+        return Err(Refusal::NoMemory);
+    }
+    Topology::new(alloc, nodes, edges, false)
+}
+
+/// The pairs of the 513 nodes are too many for the pipes of a run.
+#[test]
+fn too_many_pipes(rt: HostRuntime) -> Result<(), Fail> {
+    let topology = wheel(rt.alloc())?;
+    let text = capture(rt.alloc(), LINK_TYPE_RAW)?;
+    let fault = plan_of(rt.alloc(), &topology, &text, &OPTIONS, None)?.err();
     assert_eq!(rt; fault, Some(PlanFault::TooManyPipes(263_682)));
     Ok(())
 }

@@ -11,7 +11,7 @@ ghost use Rattle.red_queue.specs.Making.{decided, outcome_by, loses, IsAtWork, A
 use crate::queue::RedPipe;
 use crate::setup::RedSetup;
 use crate::step::RedStep;
-use loss_words::{PipeWords, Words};
+use loss_words::{EarlyWords, PipeWords};
 use mn_base::limits::KEEP_MAX;
 use mn_base::{Due, NoMemory};
 use std::alloc::Global;
@@ -24,7 +24,7 @@ pub(crate) struct AtWork {
     number: u32,
     keep: u64,
     losses: PipeWords,
-    earlies: Words,
+    earlies: EarlyWords,
 }
 
 impl Model for AtWork {
@@ -33,7 +33,7 @@ impl Model for AtWork {
 
     ghost Value = { AtWorkView };
 
-    ghost view = { λ w. record { number = w.number; seed = w.earlies; memory = w.pipe } };
+    ghost view = { λ w. record { number = w.number; seed = w.earlies.seed; memory = w.pipe } };
 
     ghost invariant = { AreOwnParts };
 }
@@ -50,7 +50,7 @@ fn idle(alloc: Global, setup: &RedSetup, number: u32) -> AtWork
         number,
         keep: params.base.keep,
         losses: PipeWords::new(setup.seed, number),
-        earlies: Words::new(setup.seed),
+        earlies: EarlyWords::new(setup.seed, number),
     }
 }
 
@@ -106,7 +106,7 @@ impl AtWork {
         if !self.pipe.asks_word(due.tick) {
             return 0;
         }
-        self.earlies.early_word(self.number, due.packet)
+        self.earlies.word(due.packet)
     }
 
     /// Whether the packet's loss word is at least the keep. A pipe that loses nothing is asked for no word.

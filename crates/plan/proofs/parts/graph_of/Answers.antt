@@ -1,4 +1,3 @@
-use Rattle.std.proofs.Common.{◌≡◌, sym, ◌∙◌}
 use Rattle.plan.proofs.Arcs.{arcs_among}
 use Rattle.plan.proofs.parts.graph_of.Goals as goal
 

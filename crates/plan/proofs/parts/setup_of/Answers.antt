@@ -1,4 +1,4 @@
-use Rattle.std.proofs.Common.{◌≡◌, List, map, refl, sym, ap, ◌∙◌}
+use Rattle.std.proofs.Common.{sym, ◌∙◌}
 use Rattle.plan.specs.declared.uses.Use.{Use}
 use Rattle.plan.specs.Binding.{Binding}
 use Rattle.plan.specs.Router.{binding_of, bindings_of}

@@ -1,4 +1,4 @@
-use Rattle.std.proofs.Common.{◌≡◌, ℕ, cond, Option, Some, None, Result, sym, ap, ◌∙◌}
+use Rattle.std.proofs.Common.{ℕ, cond, Some, Result, sym, ap, ◌∙◌}
 use Rattle.std.specs.BTreeMap.{BTreeMap, get, is_at}
 use Rattle.mn_base.specs.declared.causes.Unbound.{Unbound}
 use Rattle.routes.specs.GraphView.{GraphView}
