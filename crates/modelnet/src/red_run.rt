@@ -17,7 +17,7 @@ use mn_base::{Bytes, NoMemory, Refusal};
 use mn_words::RedOrder;
 use pcap_io::{Packet, Trace};
 use pcapng_in::CaptureFault;
-use red_queue::{RedFate, print_red_report, red_fates, red_journal};
+use red_queue::{RedFate, print_red_fates, red_fates, red_journal};
 use report::out_trace;
 use settle::Leaving;
 use std::alloc::{AllocError, Global};
@@ -55,7 +55,7 @@ fn run_red(alloc: Global, order: &RedOrder, trace: Trace) -> Result<Texts, NoMem
     let red = red_setup(alloc, order, &setup)?;
     let visits = red_journal(alloc, &red)?;
     let fates = red_fates(alloc, &red, &visits)?;
-    let report = print_red_report(alloc, &red, &visits)?;
+    let report = print_red_fates(alloc, &red, &visits, &fates)?;
     let leaving = leaving_in_order(alloc, &setup, &fates, trace.into_packets())?;
     let out = out_trace(alloc, &setup, leaving)?;
     Ok(Texts {

@@ -13,7 +13,7 @@ use Rattle.red_queue.specs.declared.visit.RedVisit.{RedVisit}
 use Rattle.red_queue.specs.SetupView.{RedSetupView}
 use Rattle.red_queue.specs.Fates.{fates_by}
 use Rattle.red_queue.specs.Outcome.{is_lost_step}
-use Rattle.red_queue.specs.Report.{is_passed_step, is_full_step, is_early_step, red_step_count, red_counts_by, counted, counted_at, HasRedRoom, text_line, red_packets_line, pipe_text, red_drop_line, drop_text, texts_below, red_report_text}
+use Rattle.red_queue.specs.Report.{is_passed_step, is_full_step, is_early_step, red_step_count, red_counts_by, counted, counted_at, HasRedRoom, HaveRedRoom, AreCounts, IsCounted, text_line, red_packets_line, pipe_text, red_drop_line, drop_text, texts_below, red_report_text}
 
 abbrev one : Bool → ℕ
 one b = cond b 1 0
@@ -90,6 +90,21 @@ counts-next J pipe i d c new within so_far is =
     go true Full here same = all true Full here same (counted before Full) (up _) (up _) refl (up _)
     go true (Pass exit) here same = all true (Pass exit) here same (counted before (Pass exit)) refl (up _) (up _) (up _)
 
+-- all counts so far have room for one visit more
+pub all-room : (J : List RedVisit) (pipes i : ℕ) (counts : List Counts) → i < length J → length J < 2 ^ 64
+    → AreCounts (take i J) pipes counts → HaveRedRoom counts
+all-room J pipes i counts within fits a = λ pipe d here.
+    counts-room J pipe i _ within fits (a.each pipe d (omega (arith, here, a.count)))
+
+-- one visit more of the list is counted at its pipe
+pub all-next : (J : List RedVisit) (pipes i : ℕ) (d : RedVisit) (counts new : List Counts) → i < length J
+    → AreCounts (take i J) pipes counts → IsCounted (get_or J i d) counts new → AreCounts (take (i + 1) J) pipes new
+all-next J pipes i d counts new within a one = record {
+  count = one.count ∙ a.count;
+  each = λ pipe e here.
+      counts-next J pipe i d _ _ within (a.each pipe e here) (one.each pipe e (omega (arith, here, a.count)));
+}
+
 -- texts below a number, and the next one
 pub texts-next : (text_of : ℕ → List ℕ) (n : ℕ) (before now new one : List ℕ) → now ≡ before ++ texts_below text_of n
     → new ≡ now ++ one → one ≡ text_of n → new ≡ before ++ texts_below text_of (n + 1)
@@ -109,13 +124,13 @@ drops-next fates n d before now new within so_far is =
     (sym (ap (λ (o : Option RedFate). option_map_or (red_drop_line n) o []) at))
 
 -- the parts of a report together
-pub report-written : (R : RedSetupView) (J : List RedVisit) (fates others : List RedFate) (pipes : ℕ) (head packets rows all : List ℕ)
-    → fates ≡ fates_by R J → others ≡ fates_by R J → pipes ≡ length R.pipes
+pub report-written : (R : RedSetupView) (J : List RedVisit) (fates : List RedFate) (pipes : ℕ) (head packets rows all : List ℕ)
+    → fates ≡ fates_by R J → pipes ≡ length R.pipes
     → head ≡ text_line (codes "modelnet red report 1") → packets ≡ head ++ red_packets_line fates
-    → rows ≡ packets ++ texts_below (pipe_text J) pipes → all ≡ rows ++ texts_below (drop_text others) (length others)
+    → rows ≡ packets ++ texts_below (pipe_text J) pipes → all ≡ rows ++ texts_below (drop_text fates) (length fates)
     → all ≡ red_report_text R J
 unfolding red_report_text
-report-written R J fates others pipes head packets rows all same again count first second third fourth =
+report-written R J fates pipes head packets rows all same count first second third fourth =
     let title : List ℕ = text_line (codes "modelnet red report 1") in
     let counts : List ℕ = red_packets_line (fates_by R J) in
     let lines : List ℕ = texts_below (pipe_text J) (length R.pipes) in
@@ -124,4 +139,4 @@ report-written R J fates others pipes head packets rows all same again count fir
     let to_rows : rows ≡ (title ++ counts) ++ lines =
     third ∙ ap₂ (λ (a : List ℕ) (n : ℕ). a ++ texts_below (pipe_text J) n) to_packets count in
     fourth
-    ∙ ap₂ (λ (a : List ℕ) (fs : List RedFate). a ++ texts_below (drop_text fs) (length fs)) to_rows again
+    ∙ ap₂ (λ (a : List ℕ) (fs : List RedFate). a ++ texts_below (drop_text fs) (length fs)) to_rows same

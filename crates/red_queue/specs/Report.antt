@@ -1,5 +1,5 @@
 -- The report of a run through pipes whose queues drop early: lines of ASCII, each with a line feed at its end.
-use Rattle.std.specs.Prelude.{ℕ, zero, suc, ◌+◌, ◌-◌, ◌^◌, ◌<◌, ◌==◌, ◌&&◌, nat_lt, Bool, true, false, List, [], ◌∷◌, ◌++◌, length, filter, slice_get, codes, if◌then◌else◌}
+use Rattle.std.specs.Prelude.{◌≡◌, ℕ, zero, suc, ◌+◌, ◌-◌, ◌^◌, ◌<◌, ◌==◌, ◌&&◌, nat_lt, Bool, true, false, List, [], ◌∷◌, ◌++◌, length, filter, slice_get, slice_index_or, codes, if◌then◌else◌}
 use Rattle.std.specs.Option.{option_map_or}
 use Rattle.std.specs.Fmt.{decimal}
 use Rattle.red_queue.specs.declared.fate.RedCause.{RedCause}
@@ -81,8 +81,11 @@ counts_line pipe c =
 abbrev pub has_red_visit : Counts → Bool
 has_red_visit c = nat_lt 0 (c.passed + c.lost + c.full + c.early)
 
+abbrev pub counts_text : ℕ → Counts → List ℕ
+counts_text pipe c = if has_red_visit c then counts_line pipe c else []
+
 abbrev pub pipe_text : List RedVisit → ℕ → List ℕ
-pipe_text J pipe = if has_red_visit (red_counts_by J pipe) then counts_line pipe (red_counts_by J pipe) else []
+pipe_text J pipe = counts_text pipe (red_counts_by J pipe)
 
 -- a dropped packet, and the one pipe and cause that dropped it; a packet that left has no line
 abbrev pub red_drop_line : ℕ → RedFate → List ℕ
@@ -126,3 +129,17 @@ pub record HasRedRoom (c : Counts) : Type 0 where
   pub lost : c.lost + 1 < 2 ^ 64
   pub full : c.full + 1 < 2 ^ 64
   pub early : c.early + 1 < 2 ^ 64
+
+-- the same of each of the counts
+abbrev pub HaveRedRoom : List Counts → Type 0
+HaveRedRoom counts = (pipe : ℕ) (d : Counts) → pipe < length counts → HasRedRoom (slice_index_or counts pipe d)
+
+-- these are the counts of so many pipes, each at its number
+pub record AreCounts (J : List RedVisit) (pipes : ℕ) (counts : List Counts) : Type 0 where
+  pub count : length counts ≡ pipes
+  pub each : (pipe : ℕ) (d : Counts) → pipe < pipes → slice_index_or counts pipe d ≡ red_counts_by J pipe
+
+-- one more visit is counted at its pipe, if there is such a pipe
+pub record IsCounted (v : RedVisit) (old new : List Counts) : Type 0 where
+  pub count : length new ≡ length old
+  pub each : (pipe : ℕ) (d : Counts) → pipe < length old → slice_index_or new pipe d ≡ counted_at pipe (slice_index_or old pipe d) v

@@ -22,7 +22,7 @@ pub use maker::red_journal;
 pub use packet_fates::red_fates;
 pub use params::RedParams;
 pub use queue::RedPipe;
-pub use report_text::print_red_report;
+pub use report_text::{print_red_fates, print_red_report};
 pub use setup::{RedPacket, RedSetup};
 pub use step::RedStep;
 pub use visit::RedVisit;

@@ -1,5 +1,6 @@
 ghost use Rattle.std.specs.Prelude.{◌≡◌, ◌≤◌, ◌++◌, IfOk, OnOk, length, string_bytes};
-ghost use Rattle.red_queue.specs.Report.{red_cause_word, left_count, red_packets_line, red_counts_by, counted, counted_at, HasRedRoom, pipe_text, red_drop_line, drop_text, texts_below, red_report_text};
+ghost use Rattle.red_queue.specs.Fates.{fates_by};
+ghost use Rattle.red_queue.specs.Report.{red_cause_word, left_count, red_packets_line, counted, HasRedRoom, HaveRedRoom, IsCounted, AreCounts, counts_text, pipe_text, red_drop_line, drop_text, texts_below, red_report_text};
 
 use crate::fate::{RedCause, RedFate};
 use crate::packet_fates::red_fates;
@@ -29,11 +30,24 @@ pub fn print_red_report(
     ensures text { IfOk result (λ text. text ≡ red_report_text setup.now visits.now) }
 {
     let fates = red_fates(alloc, setup, visits)?;
+    print_red_fates(alloc, setup, visits, &fates)
+}
+
+/// The same report, where what becomes of each packet is known.
+pub fn print_red_fates(
+    alloc: Global,
+    setup: &RedSetup,
+    visits: &[RedVisit],
+    fates: &[RedFate],
+) -> Result<Bytes, NoMemory>
+    requires fates { fates.now ≡ fates_by setup.now visits.now }
+    ensures text { IfOk result (λ text. text ≡ red_report_text setup.now visits.now) }
+{
     let mut text = String::new(alloc);
     writeln!(text, "modelnet red report 1")?;
-    write_packets(&mut text, &fates)?;
-    write_pipes(&mut text, setup.pipes.len(), visits)?;
-    write_drops(&mut text, &fates)?;
+    write_packets(&mut text, fates)?;
+    write_pipes(alloc, &mut text, setup.pipes.len(), visits)?;
+    write_drops(&mut text, fates)?;
     Ok(Bytes::from_vec(text.into_bytes()))
 }
 
@@ -59,24 +73,30 @@ fn count_left(fates: &[RedFate]) -> usize
         .count()
 }
 
-fn write_pipes(text: &mut String, pipes: usize, visits: &[RedVisit]) -> Result<(), NoMemory>
+fn write_pipes(
+    alloc: Global,
+    text: &mut String,
+    pipes: usize,
+    visits: &[RedVisit],
+) -> Result<(), NoMemory>
     ensures { OnOk result (string_bytes text.new ≡ string_bytes text.old ++ texts_below (pipe_text visits.now) pipes) }
 {
+    let all_counts = count_visits(alloc, pipes, visits)?;
     for pipe in 0..pipes {
-        write_pipe(text, pipe, visits)?;
+        write_pipe(text, pipe, all_counts[pipe])?;
     }
     Ok(())
 }
 
-fn write_pipe(text: &mut String, pipe: usize, visits: &[RedVisit]) -> Result<(), NoMemory>
-    ensures { OnOk result (string_bytes text.new ≡ string_bytes text.old ++ pipe_text visits.now pipe) }
+fn write_pipe(text: &mut String, pipe: usize, counts: Counts) -> Result<(), NoMemory>
+    ensures { OnOk result (string_bytes text.new ≡ string_bytes text.old ++ counts_text pipe counts) }
 {
     let Counts {
         passed,
         lost,
         full,
         early,
-    } = count_visits(pipe, visits);
+    } = counts;
     if passed == 0 && lost == 0 && full == 0 && early == 0 {
         return Ok(());
     }
@@ -94,31 +114,32 @@ struct Counts {
     early: usize,
 }
 
-/// Counts the visits to a pipe.
-fn count_visits(pipe: usize, visits: &[RedVisit]) -> Counts
-    ensures { result ≡ red_counts_by visits.now pipe }
+const NO_VISIT: Counts = Counts {
+    passed: 0,
+    lost: 0,
+    full: 0,
+    early: 0,
+};
+
+/// What became of the visits to each of so many pipes, by its number.
+fn count_visits(alloc: Global, pipes: usize, visits: &[RedVisit]) -> Result<Vec<Counts>, NoMemory>
+    ensures { IfOk result (λ counts. AreCounts visits.now pipes counts.items) }
 {
-    let mut counts = Counts {
-        passed: 0,
-        lost: 0,
-        full: 0,
-        early: 0,
-    };
+    let mut all_counts = vec![in alloc; NO_VISIT; pipes]?;
     for visit in visits {
-        counts = with_visit(counts, pipe, visit);
+        count_visit(&mut all_counts, visit);
     }
-    counts
+    Ok(all_counts)
 }
 
-/// The counts with one more visit, if it is to this pipe.
-fn with_visit(counts: Counts, pipe: usize, visit: &RedVisit) -> Counts
-    requires { HasRedRoom counts }
-    ensures { result ≡ counted_at pipe counts visit.now }
+/// Counts one more visit at its pipe, if there is such a pipe.
+fn count_visit(all_counts: &mut Vec<Counts>, visit: &RedVisit)
+    requires { HaveRedRoom all_counts.old.items }
+    ensures { IsCounted visit.now all_counts.old.items all_counts.new.items }
 {
-    if visit.hop as usize == pipe {
-        with_step(counts, visit.step)
-    } else {
-        counts
+    let pipe = visit.hop as usize;
+    if pipe < all_counts.len() {
+        all_counts[pipe] = with_step(all_counts[pipe], visit.step);
     }
 }
 

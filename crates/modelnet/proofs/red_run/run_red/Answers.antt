@@ -30,6 +30,13 @@ red_journal-requires c =
       delays_fit = r.delays_fit;
     }
 
+pub print_red_fates-requires : goal.print_red_fates-requires
+print_red_fates-requires c = record {
+  fates =
+      c.deref-3.ensures.value ∙ c.in_ok-fates.ensures.fates
+      ∙ ap (λ J. fates_by c.in_ok-red.red J) (c.deref.ensures.value ∙ sym c.deref-2.ensures.value);
+}
+
 pub out_trace-requires : goal.out_trace-requires
 out_trace-requires c =
     let order = c.args.order.now in
@@ -40,8 +47,8 @@ out_trace-requires c =
     let short = subst (All (λ b. length b ≤ PACKET_BYTES_MAX)) (sym bytes_are) (packets_are_short c.args.trace c.requires.trace) in
     let red_is = c.in_ok-red.ensures in
     let fits = subst (λ J. ExitsFit c.in_ok-red.red J) (sym c.deref.ensures.value) c.in_ok-visits.ensures.exits in
-    let in_time = subst (λ fates. AllLeaveInTime c.in_ok-red.red fates) (sym c.deref-3.ensures.value) (c.in_ok-fates.ensures.in_time fits) in
-    let here = red_can_be_written {S = S} c.in_ok-red.red c.deref-3.result.now (map (λ p. p.bytes) c.into_packets.result.items)
+    let in_time = subst (λ fates. AllLeaveInTime c.in_ok-red.red fates) (sym c.deref-4.ensures.value) (c.in_ok-fates.ensures.in_time fits) in
+    let here = red_can_be_written {S = S} c.in_ok-red.red c.deref-4.result.now (map (λ p. p.bytes) c.into_packets.result.items)
     c.in_ok-leaving.leaving.items setup (red_is.tick_ns ∙ sym c.in_ok-setup.ensures.tick_ns) red_is.packets in_time short
     c.in_ok-leaving.ensures.moved in
     record { of_setup = here.of_setup; different = here.different; lengths = here.lengths; times = here.times }
@@ -52,7 +59,7 @@ returns-clause-run c =
     let R = c.in_ok-red.red in
     let visits = c.in_ok-visits.visits.items in
     let leaving = c.in_ok-leaving.leaving.items in
-    let fates = c.deref-3.ensures.value ∙ c.in_ok-fates.ensures.fates ∙ ap (λ J. fates_by R J) c.deref.ensures.value in
+    let fates = c.deref-4.ensures.value ∙ c.in_ok-fates.ensures.fates ∙ ap (λ J. fates_by R J) c.deref.ensures.value in
     let listed = ap (λ fs. red_leavings S.packets fs (map (λ p. p.bytes) c.into_packets.result.items)) fates
     ∙ ap (λ ps. red_leavings S.packets (fates_by R visits) (map (λ p. p.bytes) ps)) c.into_packets.ensures.value in
     record {
