@@ -32,12 +32,15 @@ fn assert_moves(
     let ended = plain(rt.alloc(), &words, &mut host, &mut Tally::new());
     assert_eq!(rt; ended, status, "at {line}");
     let [out, report, screen] = written;
-    let whole = TWO_PACKETS_OUT.get(..out);
-    assert_eq!(rt; Some(host.written_bytes(Role::Out)), whole);
-    let whole = TWO_PACKETS_REPORT.as_bytes().get(..report);
-    assert_eq!(rt; Some(host.written_bytes(Role::Report)), whole);
-    let whole = TWO_WINDOWS.as_bytes().get(..screen);
-    assert_eq!(rt; Some(host.written_bytes(Role::Screen)), whole);
+    let whole = TWO_PACKETS_OUT.get(..out).expect(rt, "a front");
+    assert_eq!(rt; host.written_bytes(Role::Out), whole);
+    let whole = TWO_PACKETS_REPORT
+        .as_bytes()
+        .get(..report)
+        .expect(rt, "a front");
+    assert_eq!(rt; host.written_bytes(Role::Report), whole);
+    let whole = TWO_WINDOWS.as_bytes().get(..screen).expect(rt, "a front");
+    assert_eq!(rt; host.written_bytes(Role::Screen), whole);
 }
 
 const WHOLE: [usize; 3] = [
