@@ -1,11 +1,14 @@
 #!/usr/bin/env python3
-"""Times a million items between two threads: a lane (crates/gate_box), and a channel of one place of Rust's own library.
+"""Times a million items between two threads: a lane (crates/gate_box), and two channels of one place in plain Rust.
 
-usage: bench/lane.py      needs `rt` and `rustc`; some minutes, most of them to prove the driver
+usage: bench/lane.py      needs `rt`, `rustc` and `cargo`; some minutes, most of them to prove the driver
 
-The channel is std's `sync_channel(1)`, which is crossbeam's. Its threads sleep and are woken; the lane's calls never wait, so its
-two threads try again, by the kit's `Backoff`. Each line is one round: items a second.
+The channels are std's `sync_channel(1)` and crossbeam_channel's `bounded(1)`, whose threads sleep and are woken; for crossbeam's a
+loop over `try_send` and `try_recv` stands beside it, by the same `Backoff` as the lane's, whose calls never wait. Each line is one
+round: items a second. crossbeam_channel is read from a folder of sources (Debian: librust-crossbeam-channel-dev with
+librust-crossbeam-utils-dev and librust-cfg-if-dev, in /usr/share/cargo/registry; REGISTRY names another) and left out without it.
 """
+import os
 import shutil
 import subprocess
 import sys
@@ -93,29 +96,55 @@ fn main(rt: HostRuntime) -> anyhow::Result<()> {
 }
 """
 
-RUST = r"""
-use std::sync::mpsc::sync_channel;
-use std::thread;
-use std::time::Instant;
-
+# Passes a million items from thread to thread, three times, by the calls put in for CHANNEL, POST and TAKE.
+ROUNDS = r"""
 fn main() {
     for _ in 0..3 {
-        let (sender, receiver) = sync_channel::<u64>(1);
-        let begin = Instant::now();
-        let posts = thread::spawn(move || {
+        let (sender, receiver) = CHANNEL;
+        let begin = std::time::Instant::now();
+        let posts = std::thread::spawn(move || {
             for item in 0..1_000_000u64 {
-                sender.send(item).unwrap();
+                POST
             }
         });
         let mut sum = 0u64;
-        for item in receiver {
-            sum = sum.wrapping_add(item);
+        for _ in 0..1_000_000u64 {
+            sum = sum.wrapping_add(TAKE);
         }
         posts.join().unwrap();
         println!("{} {sum}", begin.elapsed().as_micros());
     }
 }
 """
+
+MANIFEST = """[package]
+name = "channel"
+version = "0.1.0"
+edition = "2021"
+
+[dependencies]
+crossbeam-channel = "0.5"
+crossbeam-utils = "0.8"
+"""
+
+TRY_POST = """let backoff = crossbeam_utils::Backoff::new();
+                while sender.try_send(item).is_err() {
+                    backoff.snooze();
+                }"""
+
+TRY_TAKE = """{
+                let backoff = crossbeam_utils::Backoff::new();
+                loop {
+                    if let Ok(item) = receiver.try_recv() {
+                        break item;
+                    }
+                    backoff.snooze();
+                }
+            }"""
+
+
+def rounds(channel: str, post: str, take: str) -> str:
+    return ROUNDS.replace("CHANNEL", channel).replace("POST", post).replace("TAKE", take)
 
 
 def lane(top: Path) -> str:
@@ -135,16 +164,41 @@ def lane(top: Path) -> str:
     return done.stdout
 
 
-def channel(top: Path) -> str:
-    (top / "channel.rs").write_text(RUST)
-    subprocess.run(["rustc", "-O", "-o", top / "channel", top / "channel.rs"], check=True)
-    return subprocess.run([top / "channel"], capture_output=True, text=True, check=True).stdout
+def std_channel(top: Path) -> str:
+    (top / "channel.rs").write_text(rounds("std::sync::mpsc::sync_channel::<u64>(1)", "sender.send(item).unwrap();", "receiver.recv().unwrap()"))
+    subprocess.run(["rustc", "-O", "-o", top / "std_channel", top / "channel.rs"], check=True)
+    return subprocess.run([top / "std_channel"], capture_output=True, text=True, check=True).stdout
 
 
-with tempfile.TemporaryDirectory() as folder:
-    for what, lines in (("lane", lane(Path(folder))), ("channel of one place", channel(Path(folder)))):
-        for line in lines.splitlines():
-            time, total = line.split()
-            if int(total) != ITEMS * (ITEMS - 1) // 2:
-                sys.exit(f"{what}: the items add up to {total}")
-            print(f"{what}: {ITEMS * 10**6 // int(time):>12,} items a second")
+def crossbeam_channel(top: Path, post: str, take: str) -> str:
+    registry = Path(os.environ.get("REGISTRY", "/usr/share/cargo/registry"))
+    if not list(registry.glob("crossbeam-channel-0.5*")):
+        return ""
+    crate = top / "crossbeam"
+    (crate / "src").mkdir(parents=True, exist_ok=True)
+    (crate / ".cargo").mkdir(exist_ok=True)
+    (crate / "Cargo.toml").write_text(MANIFEST)
+    (crate / ".cargo" / "config.toml").write_text(
+        f'[source.crates-io]\nreplace-with = "folder"\n[source.folder]\ndirectory = "{registry}"\n'
+    )
+    (crate / "src" / "main.rs").write_text(rounds("crossbeam_channel::bounded::<u64>(1)", post, take))
+    done = subprocess.run(["cargo", "run", "--release", "--offline", "-q"], cwd=crate, capture_output=True, text=True)
+    if done.returncode != 0:
+        sys.exit(done.stderr)
+    return done.stdout
+
+
+def print_rounds(what: str, lines: str) -> None:
+    for line in lines.splitlines():
+        time, total = line.split()
+        if int(total) != ITEMS * (ITEMS - 1) // 2:
+            sys.exit(f"{what}: the items add up to {total}")
+        print(f"{what}: {ITEMS * 10**6 // int(time):>12,} items a second")
+
+
+with tempfile.TemporaryDirectory() as name:
+    folder = Path(name)
+    print_rounds("crossbeam_channel, bounded(1)", crossbeam_channel(folder, "sender.send(item).unwrap();", "receiver.recv().unwrap()"))
+    print_rounds("crossbeam_channel, bounded(1), try again", crossbeam_channel(folder, TRY_POST, TRY_TAKE))
+    print_rounds("std, sync_channel(1)", std_channel(folder))
+    print_rounds("lane", lane(folder))

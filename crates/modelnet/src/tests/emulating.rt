@@ -1,6 +1,6 @@
 //! `emulate`: it writes what `rehearse` writes, and its cores run side by side.
 use super::rehearsing::{
-    Inputs, STAR, TWO_CORES, TWO_PACKETS_OUT, TWO_PACKETS_REPORT, TWO_STUBS_CROSSED, host,
+    Inputs, Quiet, STAR, TWO_CORES, TWO_PACKETS_OUT, TWO_PACKETS_REPORT, TWO_STUBS_CROSSED, host,
     to_the_third,
 };
 use super::words_in;
@@ -14,13 +14,6 @@ use std::sync::Wait;
 use std::sync::atomic::{AtomicBool, Ordering};
 use std::thread::Threads;
 use workers::Hook;
-
-/// A hook that does nothing.
-struct Quiet;
-
-impl Hook for Quiet {
-    fn at_start(&self, _core: u32) {}
-}
 
 /// Runs a command line whose cores may have threads, and compares the output trace and the report. The host and what is counted are
 /// for the caller to look at.
@@ -70,6 +63,20 @@ fn the_other_commands_are_those_of_plain(rt: HostRuntime) {
     assert_counts(&rt, tally, "Tally { cores: 2, windows: 4, visits: 6 }");
 }
 
+/// Runs words that are refused: no role is begun.
+fn assert_no_order(
+    rt: &(impl Abort + AllocGlobal + Threads + Wait + Sync),
+    words: &[&str],
+    fault: WordsFault,
+) {
+    let mut host = host(rt, &TWO_STUBS_CROSSED, &[], 4_096);
+    let status = modelnet(rt, words, &mut host, &Quiet, &mut Tally::new());
+    assert_eq!(rt; status, Status::BadWords(fault));
+    for role in [Role::Out, Role::Report, Role::Screen] {
+        assert!(rt; host.written_bytes(role).is_empty());
+    }
+}
+
 #[test]
 fn words_that_are_no_order_begin_nothing(rt: HostRuntime) {
     let lines = [
@@ -85,11 +92,9 @@ fn words_that_are_no_order_begin_nothing(rt: HostRuntime) {
         ("emulation", WordsFault::Command),
     ];
     for (line, fault) in lines {
-        let words = words_in(&rt, line);
-        let mut host = host(&rt, &TWO_STUBS_CROSSED, &[], 4_096);
-        let status = modelnet(&rt, &words, &mut host, &Quiet, &mut Tally::new());
-        assert_eq!(rt; status, Status::BadWords(fault), "at {line}");
+        assert_no_order(&rt, &words_in(&rt, line), fault);
     }
+    assert_no_order(&rt, &[], WordsFault::Command);
 }
 
 /// Cores 1 and 2 each raise a flag of their own, and wait for the other's.

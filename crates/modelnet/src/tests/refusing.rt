@@ -1,4 +1,4 @@
-//! `rehearse` that ends early: each answer that may come in the place of Done; and what the other commands that plan refuse.
+//! `rehearse` and `emulate` that end early: each answer that may come in the place of Done; and what the other commands that plan refuse.
 ghost use Rattle.mn_edge.specs.declared.role.Role.{Role};
 ghost use Rattle.modelnet.specs.TheCommands.{AreWithinUsual};
 
@@ -7,37 +7,67 @@ use super::journals::{CHECK, LIST};
 use super::moving::MOVE;
 use super::pcapng::first_bytes;
 use super::rehearsing::{
-    CROSS, CROSS_AND_TELL, Inputs, MEET, STAR, TWO_CORES, TWO_PACKETS, TWO_PACKETS_OUT,
-    TWO_PACKETS_REPORT, TWO_STUBS, TWO_STUBS_CROSSED, TWO_STUBS_ON_TWO_CORES, host,
+    CROSS, CROSS_AND_TELL, Inputs, MEET, Quiet, STAR, TWO_CORES, TWO_PACKETS, TWO_PACKETS_OUT,
+    TWO_PACKETS_REPORT, TWO_STUBS, TWO_STUBS_CROSSED, TWO_STUBS_ON_TWO_CORES, host, line_of,
     star_with_a_change, to_the_third,
 };
 use super::words_in;
 use crate::plain::{plain, plain_within};
 use crate::read_limits::ReadLimits;
 use crate::status::Status;
+use crate::top::modelnet;
 use changes::ChangesFault;
 use core_loop::Tally;
 use gml_reader::{GmlFault, Item};
 use mn_base::limits::{JOURNAL_BYTES_MAX, TOPOLOGY_BYTES_MAX, TRACE_BYTES_MAX};
-use mn_edge::{Fail, Op, Role};
+use mn_edge::{Fail, MemoryHost, Op, Role};
 use ownership::AssignFault;
 use pcap_io::PcapFault;
 use pcapng_in::NgFault;
 use plan::PlanFault;
 use std::process::Abort;
+use std::sync::Wait;
+use std::thread::Threads;
 use topo::Key;
 
-/// Runs a command line that is refused: nothing is written or counted.
-fn assert_refused(rt: &(impl Abort + AllocGlobal), line: &str, inputs: &Inputs, status: Status) {
-    let words = words_in(rt, line);
-    let mut host = host(rt, inputs, &[], 65_536);
-    let mut tally = Tally::new();
-    assert_eq!(rt; plain(rt.alloc(), &words, &mut host, &mut tally), status);
+/// Nothing is written or counted.
+fn assert_nothing(rt: &(impl Abort + AllocGlobal), host: &MemoryHost, tally: Tally) {
     for role in [Role::Out, Role::Report, Role::Screen] {
         assert_eq!(rt; host.written_bytes(role).len(), 0);
     }
     let told = format!(in rt.alloc(); "{tally:?}").expect(rt, "memory");
     assert_eq!(rt; told.as_str(), "Tally { cores: 0, windows: 0, visits: 0 }");
+}
+
+/// Runs a command line that is refused on one thread.
+fn assert_refused(rt: &(impl Abort + AllocGlobal), line: &str, inputs: &Inputs, status: Status) {
+    let words = words_in(rt, line);
+    let mut host = host(rt, inputs, &[], 65_536);
+    let mut tally = Tally::new();
+    assert_eq!(rt; plain(rt.alloc(), &words, &mut host, &mut tally), status);
+    assert_nothing(rt, &host, tally);
+}
+
+/// Runs `rehearse` with these options on one thread, and `emulate` on several: both are refused.
+fn assert_both_refused(
+    rt: &(impl Abort + AllocGlobal + Threads + Wait + Sync),
+    options: &str,
+    inputs: &Inputs,
+    status: Status,
+) {
+    assert_refused(
+        rt,
+        line_of(rt, "rehearse", options).as_str(),
+        inputs,
+        status,
+    );
+    let line = line_of(rt, "emulate", options);
+    let words = words_in(rt, line.as_str());
+    let mut host = host(rt, inputs, &[], 65_536);
+    let mut tally = Tally::new();
+    let ended = modelnet(rt, &words, &mut host, &Quiet, &mut tally);
+    assert_eq!(rt; ended, status);
+    assert_nothing(rt, &host, tally);
 }
 
 #[test]
@@ -55,7 +85,7 @@ fn changes_that_are_refused(rt: HostRuntime) {
             directory: directory.as_str(),
         };
         let status = Status::BadPlan(PlanFault::Changes(fault));
-        assert_refused(&rt, MEET, &inputs, status);
+        assert_both_refused(&rt, MEET, &inputs, status);
     }
 }
 
@@ -88,7 +118,8 @@ fn each_input_is_refused_by_its_first_fault(rt: HostRuntime) {
             trace,
             directory,
         };
-        for line in [CROSS_AND_TELL, LIST, CHECK, MOVE] {
+        assert_both_refused(&rt, CROSS_AND_TELL, &inputs, status);
+        for line in [LIST, CHECK, MOVE] {
             assert_refused(&rt, line, &inputs, status);
         }
     }
@@ -103,7 +134,7 @@ fn a_mesh_of_1001000_pipes_is_refused(rt: HostRuntime) {
         directory: "",
     };
     let status = Status::BadPlan(PlanFault::TooManyPipes(1_001_000));
-    assert_refused(&rt, CROSS_AND_TELL, &inputs, status);
+    assert_both_refused(&rt, CROSS_AND_TELL, &inputs, status);
 }
 
 #[test]
@@ -122,24 +153,12 @@ fn fronts_of_a_trace(rt: HostRuntime) {
             61..96 => PcapFault::Truncated(1),
             _ => continue,
         };
-        assert_refused(&rt, CROSS, &inputs, Status::BadTrace(fault));
+        assert_both_refused(&rt, CROSS, &inputs, Status::BadTrace(fault));
     }
 }
 
-/// Runs over a host of which one call fails, the first of its kind and role, and compares how it ends and how many bytes of each
-/// whole output are written.
-fn assert_stops(
-    rt: &(impl Abort + AllocGlobal),
-    role: Role,
-    op: Op,
-    status: Status,
-    written: [usize; 3],
-) {
-    let words = words_in(rt, CROSS_AND_TELL);
-    let fail = Fail { role, op, k: 0 };
-    let mut host = host(rt, &TWO_STUBS_CROSSED, &[fail], 4_096);
-    let ended = plain(rt.alloc(), &words, &mut host, &mut Tally::new());
-    assert_eq!(rt; ended, status);
+/// Compares how many bytes of each whole output are written.
+fn assert_written(rt: &impl Abort, host: &MemoryHost, written: [usize; 3]) {
     let [out, report, screen] = written;
     let whole = TWO_PACKETS_OUT.get(..out);
     assert_eq!(rt; Some(host.written_bytes(Role::Out)), whole);
@@ -147,6 +166,30 @@ fn assert_stops(
     assert_eq!(rt; Some(host.written_bytes(Role::Report)), whole);
     let whole = TWO_CORES.as_bytes().get(..screen);
     assert_eq!(rt; Some(host.written_bytes(Role::Screen)), whole);
+}
+
+/// Runs `rehearse` and `emulate` over hosts of which one call fails, the first of its kind and role, and compares how they end and
+/// what is written.
+fn assert_stops(
+    rt: &(impl Abort + AllocGlobal + Threads + Wait + Sync),
+    role: Role,
+    op: Op,
+    status: Status,
+    written: [usize; 3],
+) {
+    let fail = Fail { role, op, k: 0 };
+    let line = line_of(rt, "rehearse", CROSS_AND_TELL);
+    let words = words_in(rt, line.as_str());
+    let mut alone = host(rt, &TWO_STUBS_CROSSED, &[fail], 4_096);
+    let ended = plain(rt.alloc(), &words, &mut alone, &mut Tally::new());
+    assert_eq!(rt; ended, status);
+    assert_written(rt, &alone, written);
+    let line = line_of(rt, "emulate", CROSS_AND_TELL);
+    let words = words_in(rt, line.as_str());
+    let mut crossed = host(rt, &TWO_STUBS_CROSSED, &[fail], 4_096);
+    let ended = modelnet(rt, &words, &mut crossed, &Quiet, &mut Tally::new());
+    assert_eq!(rt; ended, status);
+    assert_written(rt, &crossed, written);
 }
 
 #[test]
@@ -175,7 +218,8 @@ fn each_failed_call_is_named_by_its_role(rt: HostRuntime) {
 fn status_within(rt: &(impl Abort + AllocGlobal), limits: &ReadLimits) -> Status
     requires { AreWithinUsual limits.now }
 {
-    let words = words_in(rt, CROSS_AND_TELL);
+    let line = line_of(rt, "rehearse", CROSS_AND_TELL);
+    let words = words_in(rt, line.as_str());
     let mut host = host(rt, &TWO_STUBS_CROSSED, &[], 4_096);
     plain_within(rt.alloc(), limits, &words, &mut host, &mut Tally::new())
 }

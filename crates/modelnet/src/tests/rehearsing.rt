@@ -1,4 +1,4 @@
-//! `rehearse`: what leaves a topology, with its report, its cluster report and what is counted.
+//! `rehearse`, and `emulate` beside it: what leaves a topology, with its report, its cluster report and what is counted.
 ghost use Rattle.std.specs.Prelude.{◌≡◌, ◌≤◌, false};
 ghost use Rattle.mn_edge.specs.declared.role.Role.{Role};
 ghost use Rattle.mn_edge.specs.MemoryHostView.{stream_of};
@@ -6,10 +6,21 @@ ghost use Rattle.mn_edge.specs.MemoryHostView.{stream_of};
 use super::{ONE_PACKET, push_number, push_record, words_in};
 use crate::plain::plain;
 use crate::status::Status;
+use crate::top::modelnet;
 use core_loop::Tally;
 use mn_edge::{Fail, MemoryHost, Role};
 use std::alloc::AllocError;
 use std::process::Abort;
+use std::sync::Wait;
+use std::thread::Threads;
+use workers::Hook;
+
+/// A hook that does nothing.
+pub struct Quiet;
+
+impl Hook for Quiet {
+    fn at_start(&self, _core: u32) {}
+}
 
 /// What a run reads.
 #[derive(Drop)]
@@ -49,23 +60,56 @@ pub fn host(
     host.expect(rt, "memory for a host")
 }
 
-/// Runs a command line, and compares all that comes of it.
-fn assert_rehearses(
+/// The command line of these options.
+pub fn line_of(rt: &(impl Abort + AllocGlobal), command: &str, options: &str) -> String {
+    format!(in rt.alloc(); "{command} {options}").expect(rt, "memory")
+}
+
+/// Compares all that came of a run.
+fn assert_came(
     rt: &(impl Abort + AllocGlobal),
-    line: &str,
-    inputs: &Inputs,
+    status: Status,
+    host: &MemoryHost,
+    tally: Tally,
     outputs: &Outputs,
 ) {
-    let words = words_in(rt, line);
-    let mut host = host(rt, inputs, &[], 4_096);
-    let mut tally = Tally::new();
-    let status = plain(rt.alloc(), &words, &mut host, &mut tally);
     assert_eq!(rt; status, Status::Done);
     assert_eq!(rt; host.written_bytes(Role::Out), outputs.out);
     assert_eq!(rt; host.written_bytes(Role::Report), outputs.report.as_bytes());
     assert_eq!(rt; host.written_bytes(Role::Screen), outputs.screen.as_bytes());
     let told = format!(in rt.alloc(); "{tally:?}").expect(rt, "memory");
     assert_eq!(rt; told.as_str(), outputs.tally);
+}
+
+/// Runs `rehearse` with these options, and compares all that comes of it.
+fn assert_rehearses(
+    rt: &(impl Abort + AllocGlobal),
+    options: &str,
+    inputs: &Inputs,
+    outputs: &Outputs,
+) {
+    let line = line_of(rt, "rehearse", options);
+    let words = words_in(rt, line.as_str());
+    let mut host = host(rt, inputs, &[], 4_096);
+    let mut tally = Tally::new();
+    let status = plain(rt.alloc(), &words, &mut host, &mut tally);
+    assert_came(rt, status, &host, tally, outputs);
+}
+
+/// Runs `rehearse` with these options on one thread, and `emulate` on several: the same comes of both.
+fn assert_both(
+    rt: &(impl Abort + AllocGlobal + Threads + Wait + Sync),
+    options: &str,
+    inputs: &Inputs,
+    outputs: &Outputs,
+) {
+    assert_rehearses(rt, options, inputs, outputs);
+    let line = line_of(rt, "emulate", options);
+    let words = words_in(rt, line.as_str());
+    let mut host = host(rt, inputs, &[], 4_096);
+    let mut tally = Tally::new();
+    let status = modelnet(rt, &words, &mut host, &Quiet, &mut tally);
+    assert_came(rt, status, &host, tally, outputs);
 }
 
 /// A capture in ns of this link type; each packet is (time in ns, original length, captured bytes).
@@ -211,11 +255,11 @@ pub const TWO_STUBS_CROSSED: Inputs = Inputs {
     directory: TWO_STUBS_ON_TWO_CORES,
 };
 
-pub const CROSS: &str =
-    "rehearse --topology g --trace t --out o --report r --mode walk:1 --cores 2";
+/// Options of `rehearse` and `emulate`.
+pub const CROSS: &str = "--topology g --trace t --out o --report r --mode walk:1 --cores 2";
 
 pub const CROSS_AND_TELL: &str =
-    "rehearse --topology g --trace t --out o --report r --mode walk:1 --cores 2 \
+    "--topology g --trace t --out o --report r --mode walk:1 --cores 2 \
     --directory d --cluster-report yes";
 
 #[test]
@@ -226,8 +270,8 @@ fn two_packets_cross_two_stubs(rt: HostRuntime) {
         screen: TWO_CORES,
         tally: "Tally { cores: 2, windows: 4, visits: 6 }",
     };
-    assert_rehearses(&rt, CROSS_AND_TELL, &TWO_STUBS_CROSSED, &told);
-    let line = "rehearse --cluster-report yes --topology g --trace t --out o --report r \
+    assert_both(&rt, CROSS_AND_TELL, &TWO_STUBS_CROSSED, &told);
+    let options = "--cluster-report yes --topology g --trace t --out o --report r \
         --mode walk:1 --cores 1";
     let alone = Outputs {
         out: &TWO_PACKETS_OUT,
@@ -238,7 +282,7 @@ core 0 pipes 10 entered 2 visits 6 arrivals 0 settles 0
 ",
         tally: "Tally { cores: 1, windows: 1, visits: 6 }",
     };
-    assert_rehearses(&rt, line, &TWO_STUBS_CROSSED, &alone);
+    assert_both(&rt, options, &TWO_STUBS_CROSSED, &alone);
 }
 
 #[test]
@@ -250,10 +294,10 @@ fn drawn_orders_change_nothing(rt: HostRuntime) {
         tally: "Tally { cores: 2, windows: 4, visits: 6 }",
     };
     for order in 1u64..4 {
-        let line = format!(in rt.alloc(); "{CROSS} --order {order} --turns 500").expect(
+        let options = format!(in rt.alloc(); "{CROSS} --order {order} --turns 500").expect(
             &rt, "memory",
         );
-        assert_rehearses(&rt, line.as_str(), &TWO_STUBS_CROSSED, &told);
+        assert_rehearses(&rt, options.as_str(), &TWO_STUBS_CROSSED, &told);
     }
 }
 
@@ -303,7 +347,7 @@ core 1 pipes 2 entered 1 visits 1 arrivals 1 settles 0
 core 2 pipes 2 entered 0 visits 2 arrivals 0 settles 2
 ";
 
-pub const MEET: &str = "rehearse --topology g --trace t --out o --report r --cores 3 --directory d";
+pub const MEET: &str = "--topology g --trace t --out o --report r --cores 3 --directory d";
 
 #[test]
 fn two_packets_of_two_cores_meet_in_a_pipe_of_a_third(rt: HostRuntime) {
@@ -320,11 +364,13 @@ fn two_packets_of_two_cores_meet_in_a_pipe_of_a_third(rt: HostRuntime) {
         screen: THREE_CORES,
         tally: "Tally { cores: 3, windows: 6, visits: 4 }",
     };
+    let options = format!(in rt.alloc(); "{MEET} --cluster-report yes").expect(&rt, "memory");
+    assert_both(&rt, options.as_str(), &inputs, &told);
     for order in 0u64..8 {
-        let line = format!(in rt.alloc();
+        let options = format!(in rt.alloc();
             "{MEET} --cluster-report yes --order {order} --turns 20"
         ).expect(&rt, "memory");
-        assert_rehearses(&rt, line.as_str(), &inputs, &told);
+        assert_rehearses(&rt, options.as_str(), &inputs, &told);
     }
 }
 
@@ -381,8 +427,8 @@ unbound 5 cause no-source
         screen: "",
         tally: "Tally { cores: 1, windows: 1, visits: 3 }",
     };
-    let line = "rehearse --topology g --trace t --out o --report r --mode walk:1";
-    assert_rehearses(&rt, line, &inputs, &told);
+    let options = "--topology g --trace t --out o --report r --mode walk:1";
+    assert_both(&rt, options, &inputs, &told);
 }
 
 #[test]
@@ -402,8 +448,8 @@ packets 1 bound 1 unbound 0 left 1 dropped 0
         screen: "",
         tally: "Tally { cores: 1, windows: 0, visits: 0 }",
     };
-    let line = "rehearse --topology g --trace t --out o --report r --mode walk:1";
-    assert_rehearses(&rt, line, &inputs, &told);
+    let options = "--topology g --trace t --out o --report r --mode walk:1";
+    assert_both(&rt, options, &inputs, &told);
 }
 
 /// Two edge nodes with a router between them.
@@ -463,8 +509,8 @@ core 15 pipes 0 entered 0 visits 0 arrivals 0 settles 0
 ",
         tally: "Tally { cores: 16, windows: 64, visits: 4 }",
     };
-    let line = "rehearse --topology g --trace t --out o --report r --cores 16 --cluster-report yes";
-    assert_rehearses(&rt, line, &inputs, &told);
+    let options = "--topology g --trace t --out o --report r --cores 16 --cluster-report yes";
+    assert_both(&rt, options, &inputs, &told);
 }
 
 /// So many nodes in a row, with an address at either end.
@@ -506,8 +552,8 @@ unbound 0 cause too-far
         screen: "",
         tally: "Tally { cores: 1, windows: 0, visits: 0 }",
     };
-    let line = "rehearse --topology g --trace t --out o --report r";
-    assert_rehearses(&rt, line, &inputs, &far);
+    let options = "--topology g --trace t --out o --report r";
+    assert_both(&rt, options, &inputs, &far);
     let out = captured(&rt, 101, &[(257_000_000, 1000, &bytes)]);
     let left = Outputs {
         out: &out,
@@ -518,8 +564,8 @@ pipe 0 passed 1 lost 0 full 0
         screen: "",
         tally: "Tally { cores: 1, windows: 1, visits: 1 }",
     };
-    let line = "rehearse --topology g --trace t --out o --report r --mode end";
-    assert_rehearses(&rt, line, &inputs, &left);
+    let options = "--topology g --trace t --out o --report r --mode end";
+    assert_both(&rt, options, &inputs, &left);
 }
 
 #[test]
@@ -549,8 +595,8 @@ pipe 0 passed 2 lost 0 full 0
         screen: "",
         tally: "Tally { cores: 1, windows: 1, visits: 2 }",
     };
-    let line = "rehearse --topology g --trace t --out o --report r --directory d";
-    assert_rehearses(&rt, line, &inputs, &told);
+    let options = "--topology g --trace t --out o --report r --directory d";
+    assert_both(&rt, options, &inputs, &told);
 }
 
 /// The directory of three cores in its second version, with this head and this change of a pipe.
@@ -595,8 +641,8 @@ core 2 pipes 2 entered 0 visits 2 arrivals 0 settles 2
 ",
         tally: "Tally { cores: 3, windows: 6, visits: 4 }",
     };
-    let line = format!(in rt.alloc(); "{MEET} --cluster-report yes").expect(&rt, "memory");
-    assert_rehearses(&rt, line.as_str(), &inputs, &told);
+    let options = format!(in rt.alloc(); "{MEET} --cluster-report yes").expect(&rt, "memory");
+    assert_both(&rt, options.as_str(), &inputs, &told);
 }
 
 #[test]
@@ -633,6 +679,6 @@ pipe 8 passed 1 lost 0 full 0
             screen: "",
             tally,
         };
-        assert_rehearses(&rt, CROSS, &inputs, &told);
+        assert_both(&rt, CROSS, &inputs, &told);
     }
 }
