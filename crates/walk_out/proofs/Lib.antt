@@ -1,3 +1,4 @@
 pub mod Around
 pub mod Hops
 pub mod Outer
+pub mod WithoutCore

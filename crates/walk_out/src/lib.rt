@@ -4,6 +4,7 @@
 //! `walk_parts` and `walk_out_parts` (specs/WalkOut.antt).
 #![tactic(auto)]
 
+pub mod laws;
 mod parts;
 mod walks;
 
