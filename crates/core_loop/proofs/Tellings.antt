@@ -29,7 +29,7 @@ use Rattle.core_loop.specs.Work.{EntrantsView, is_settle, is_left_to_tell}
 use Rattle.core_loop.specs.Trading.{IsLeastBy}
 use Rattle.core_loop.specs.Handing.{TakesNotes, CanTake, CanTakeAll, earlier_of, IsDueTick, IsToldTick, notes_for, AreTold, WasDecidedBy, IsParcelOf}
 use Rattle.mn_base.proofs.Members.{Among-map, Among-from-map, Among-filter, Among-from-filter}
-use Rattle.journal.proofs.HeldOrder.{among-permuted}
+use Rattle.pipe.proofs.HeldOrder.{among-permuted}
 use Rattle.journal.proofs.Orderly.{one_packet}
 use Rattle.journal.proofs.Count.{hop-within}
 use Rattle.journal.proofs.Meets.{journal-grows}

@@ -4,18 +4,19 @@ use Rattle.std.specs.Option.{option_map_or}
 use Rattle.std.proofs.lemmas.Bool.{cases_order, ne_eqb}
 use Rattle.std.proofs.lemmas.List.{reverse-append, length-map}
 use Rattle.std.proofs.lemmas.Option.{slice_get_within, get_or_from_slice_get}
+use Rattle.pipe.specs.declared.due_visits.DueVisit.{DueVisit}
+use Rattle.pipe.specs.HeldVisits.{TakesVisit}
 use Rattle.journal.specs.declared.setup.PacketPlan.{PacketPlan}
 use Rattle.journal.specs.declared.visit.Visit.{Visit}
 use Rattle.journal.specs.declared.fate.Fate.{Fate}
 use Rattle.journal.specs.declared.fate.Fate.TheVariants.{Left}
-use Rattle.journal.specs.declared.due_visits.DueVisit.{DueVisit}
 use Rattle.journal.specs.SetupView.{SetupView}
 use Rattle.journal.specs.IsSetup.{IsSetup}
 use Rattle.journal.specs.Steps.{visit_of}
 use Rattle.journal.specs.Journal.{hop_count}
 use Rattle.journal.specs.Fates.{fate_of_visit, last_visit, fate_after, fate_of}
 use Rattle.journal.specs.IsPipe.{SetupPipeView}
-use Rattle.journal.specs.Held.{TakesVisit, IsMaking, IsToMake}
+use Rattle.journal.specs.Held.{IsMaking, IsToMake}
 use Rattle.journal.proofs.Making.{next-indexed, next-counts, making-whole}
 
 -- the fates are those after the visits of some list, which the maker has made

@@ -7,17 +7,19 @@ use Rattle.std.proofs.lemmas.List.Quantifiers.{all_pairs_push}
 use Rattle.std.proofs.lemmas.Option.{slice_get_within, slice_get-get_or, get_or_from_slice_get}
 use Rattle.mn_base.specs.Among.{Among}
 use Rattle.mn_base.specs.declared.due.Due.{Due}
+use Rattle.pipe.specs.declared.due_visits.DueVisit.{DueVisit}
+use Rattle.pipe.specs.HeldVisits.{plain}
 use Rattle.journal.specs.declared.setup.PacketPlan.{PacketPlan}
-use Rattle.journal.specs.declared.due_visits.DueVisit.{DueVisit}
 use Rattle.journal.specs.SetupView.{SetupView}
 use Rattle.journal.specs.IsSetup.{IsSetup}
 use Rattle.journal.specs.Hops.{entry}
 use Rattle.journal.specs.IsJournal.{scheme_of}
 use Rattle.journal.specs.Journal.{pending}
-use Rattle.journal.specs.Held.{plain, IsIndexed, IsFirstBelow, HaveEntered, IsHeld}
-use Rattle.mn_base.proofs.Members.{index_of, Among-map, Among-from-map, Among-push, Among-last, Among-index, Among-append-left}
+use Rattle.journal.specs.Held.{IsIndexed, IsFirstBelow, HaveEntered, IsHeld}
+use Rattle.mn_base.proofs.Members.{index_of, Among-map, Among-from-map, Among-index}
 use Rattle.pipe.proofs.Origins.{due_from-first}
 use Rattle.pipe.proofs.Grown.{pending_from, pending_parts}
+use Rattle.pipe.proofs.HeldVisits.{plain-moved}
 use Rattle.journal.proofs.Packets.{among-get}
 use Rattle.journal.proofs.Delays.{entry_parts, entry-is}
 use Rattle.journal.proofs.Orderly.{Origin, origin, first-due}
@@ -73,14 +75,9 @@ entered-some {S} {n} {old} {new} {p} {w} h here first is_indexed adds = record {
   all = λ index q x below at e. go index q x at e (cases_lt index n) below;
 }
   where
-    kept : (x : Due) → Among x (map plain old) → Among x (map plain new)
-    kept x a =
-        let s = Among-from-map plain x old a in
-        subst (λ d. Among d (map plain new)) s.2 (Among-map plain s.0 new ((adds s.0).1 (inr s.1)))
-
     go : (index : ℕ) (q : PacketPlan) (x : Due) → slice_get S.packets index ≡ Some q → entry S q ≡ Some x → (index < n) ⊎ (n ≤ index)
         → index < n + 1 → Among x (map plain new)
-    go index q x at e (inl before) below = kept x (h.all index q x before at e)
+    go index q x at e (inl before) below = plain-moved old new (λ u b. (adds u).1 (inr b)) x (h.all index q x before at e)
     go index q x at e (inr last) below =
         let same : index ≡ n = omega arith in
         let one : Some q ≡ Some p = sym at ∙ ap (slice_get S.packets) same ∙ here in
@@ -116,25 +113,16 @@ entered-rising S is n held p w h here first rising =
     all_pairs_push (λ (u : DueVisit) v. u.due.packet < v.due.packet) held w rising
     (λ k d within. entered-below S is n held p w h here first (slice_index_or held k d) (Among-index held k d within))
 
--- the visit that is put after the others
-pub pushed-among : (held : List DueVisit) (w other : DueVisit) → Among other (held ++ w ∷ []) ↔ ((w ≡ other) ⊎ Among other held)
-pushed-among held w other = (
-  λ a. ⊎_elim (λ b. inr b) (λ e. inl e) (Among-push other held w a),
-  λ a. ⊎_elim (λ e. subst (λ v. Among v (held ++ w ∷ [])) e (Among-last w held)) (λ b. Among-append-left other held (w ∷ []) b) a,
-)
-
 -- what holds of a list of held visits holds of each with the same members
 pub held-same : (S : SetupView) (a b : List DueVisit) → ((w : DueVisit) → Among w b ↔ Among w a) → IsHeld S [] a → IsHeld S [] b
 held-same S a b same h = record {
   indexed = λ w among. h.indexed w ((same w).0 among);
   pending =
-      λ x. (λ among. (h.pending x).0 (moved x b a (λ w c. (same w).0 c) among), λ among. moved x a b (λ w c. (same w).1 c) ((h.pending x).1 among));
+      λ x. (
+        λ among. (h.pending x).0 (plain-moved b a (λ w c. (same w).0 c) x among),
+        λ among. plain-moved a b (λ w c. (same w).1 c) x ((h.pending x).1 among),
+      );
 }
-  where
-    moved : (x : Due) (xs ys : List DueVisit) → ((w : DueVisit) → Among w xs → Among w ys) → Among x (map plain xs) → Among x (map plain ys)
-    moved x xs ys into among =
-        let s = Among-from-map plain x xs among in
-        subst (λ d. Among d (map plain ys)) s.2 (Among-map plain s.0 ys (into s.0 s.1))
 
 -- all first visits are what is pending before any visit
 pub held_from-entered : (S : SetupView) (n : ℕ) (held : List DueVisit) → HaveEntered S n held → length S.packets ≤ n → IsHeld S [] held

@@ -7,7 +7,6 @@ pub mod Ends
 pub mod FatesSoFar
 pub mod FewVisits
 pub mod HeldFirst
-pub mod HeldOrder
 pub mod MadeVisits
 pub mod Making
 pub mod Meets

@@ -1,13 +1,14 @@
 -- Visits that are made one after the other: those made are the front of the journal that has as many.
 use Rattle.std.proofs.Common.{◌≡◌, ℕ, List, [], ◌∷◌, ◌++◌, take, sym, ap, ◌∙◌, subst}
 use Rattle.std.proofs.lemmas.List.{take_at, append_assoc}
+use Rattle.pipe.specs.declared.due_visits.DueVisit.{DueVisit}
+use Rattle.pipe.specs.HeldVisits.{TakesVisit}
 use Rattle.journal.specs.declared.visit.Visit.{Visit}
-use Rattle.journal.specs.declared.due_visits.DueVisit.{DueVisit}
 use Rattle.journal.specs.SetupView.{SetupView}
 use Rattle.journal.specs.Steps.{visit_of}
 use Rattle.journal.specs.Journal.{journal_of}
 use Rattle.journal.specs.IsPipe.{SetupPipeView}
-use Rattle.journal.specs.Held.{TakesVisit, IsMaking, IsToMake}
+use Rattle.journal.specs.Held.{IsMaking, IsToMake}
 use Rattle.journal.specs.VisitsView.{GoesOnWith}
 use Rattle.journal.proofs.Meets.{grows_to_journal}
 

@@ -1,6 +1,5 @@
 -- The maker of the journal, from one visit to the next.
-use Rattle.std.proofs.Common.{◌≡◌, ◌⊎◌, inl, inr, ⊎_elim, ℕ, ◌+◌, ◌*◌, ◌^◌, ◌<◌, ◌≤◌, List, [], ◌∷◌, ◌++◌, length, map, Some, None, slice_get, slice_index_or, refl, sym, ap, ◌∙◌, subst, arith}
-use Rattle.std.specs.Prelude.{◌↔◌}
+use Rattle.std.proofs.Common.{◌≡◌, inl, inr, ⊎_elim, ℕ, ◌+◌, ◌*◌, ◌^◌, ◌<◌, ◌≤◌, List, [], ◌∷◌, ◌++◌, length, map, Some, slice_get, slice_index_or, refl, sym, ap, ◌∙◌, subst, arith}
 use Rattle.std.proofs.lemmas.List.{length_push}
 use Rattle.std.proofs.lemmas.List.Sums.{sum_by-le}
 use Rattle.std.proofs.lemmas.Option.{slice_get_within}
@@ -8,11 +7,11 @@ use Rattle.mn_base.specs.Among.{Among}
 use Rattle.mn_base.specs.declared.limits.TheConstants.{PACKETS_MAX, ROUTE_PIPES_MAX, TIME_NS_END}
 use Rattle.mn_base.specs.declared.due.Due.{Due}
 use Rattle.pipe.specs.declared.step.Step.{Step}
-use Rattle.mn_base.specs.Canonical.{Before}
 use Rattle.pipe.specs.Scheme.{TakesFirst, AddsNext}
+use Rattle.pipe.specs.declared.due_visits.DueVisit.{DueVisit}
+use Rattle.pipe.specs.HeldVisits.{plain, HasNone, PutsNext}
 use Rattle.journal.specs.declared.setup.PacketPlan.{PacketPlan}
 use Rattle.journal.specs.declared.visit.Visit.{Visit}
-use Rattle.journal.specs.declared.due_visits.DueVisit.{DueVisit}
 use Rattle.journal.specs.SetupView.{SetupView, packet_of, route_of}
 use Rattle.journal.specs.IsSetup.{IsSetup}
 use Rattle.journal.specs.Hops.{pipe_of, hop_after}
@@ -20,9 +19,10 @@ use Rattle.journal.specs.Steps.{past_visit, visits_to, visit_of}
 use Rattle.journal.specs.IsJournal.{scheme_of}
 use Rattle.journal.specs.Journal.{hop_count, journal_of}
 use Rattle.journal.specs.IsPipe.{SetupPipeView, ArePipes}
-use Rattle.journal.specs.Held.{plain, HasNone, TakesVisit, IsIndexed, PutsNext, IsHeld, IsMaking, IsToMake}
-use Rattle.mn_base.proofs.Members.{Among-map, Among-from-map, Among-index}
+use Rattle.journal.specs.Held.{IsIndexed, IsHeld, IsMaking, IsToMake}
+use Rattle.mn_base.proofs.Members.{Among-map, Among-index}
 use Rattle.pipe.proofs.Growing.{growing-nil, growing-push}
+use Rattle.pipe.proofs.HeldVisits.{takes-plain, adds-plain}
 use Rattle.pipe.proofs.Pending.{held-whole, taken-due, taken-least, taken-order, taken-alone, held-push}
 use Rattle.journal.proofs.Orderly.{IsGrowing, orderly}
 use Rattle.journal.proofs.Delays.{next_parts}
@@ -56,42 +56,6 @@ planned {S} is {w} i {plan} read =
       number = number;
       hop = subst (λ (n : ℕ). w.due.hop < length (route_of S n)) (sym number) i.within;
     }
-
--- the list of due visits without their indexes
-takes-plain : {old : List DueVisit} {first : DueVisit} {new : List DueVisit} → TakesVisit old first new
-    → TakesFirst (map plain old) first.due (map plain new)
-takes-plain {old} {first} {new} t = record { taken = λ y. (into y, out y); first = before }
-  where
-    into : (y : Due) → Among y (map plain old) → (first.due ≡ y) ⊎ Among y (map plain new)
-    into y a =
-        let s = Among-from-map plain y old a in
-        ⊎_elim (λ e. inl (ap plain e ∙ s.2)) (λ b. inr (subst (λ (d : Due). Among d (map plain new)) s.2 (Among-map plain s.0 new b)))
-        ((t.taken s.0).0 s.1)
-
-    out : (y : Due) → (first.due ≡ y) ⊎ Among y (map plain new) → Among y (map plain old)
-    out y (inl e) = subst (λ (d : Due). Among d (map plain old)) e (Among-map plain first old ((t.taken first).1 (inl refl)))
-    out y (inr a) =
-        let s = Among-from-map plain y new a in
-        subst (λ (d : Due). Among d (map plain old)) s.2 (Among-map plain s.0 old ((t.taken s.0).1 (inr s.1)))
-
-    before : (y : Due) → Among y (map plain new) → Before first.due y
-    before y a = let s = Among-from-map plain y new a in subst (λ (d : Due). Before first.due d) s.2 (t.before s.0 s.1)
-
-adds-plain : {S : SetupView} {made : DueVisit} {step : Step} {old new : List DueVisit} → PutsNext S made step old new
-    → AddsNext (hop_after S made.due.packet made.due.hop step) (map plain old) (map plain new)
-adds-plain {S} {made} {step} {old} {new} p y = (into, out)
-  where
-    into : Among y (map plain new) → (hop_after S made.due.packet made.due.hop step ≡ Some y) ⊎ Among y (map plain old)
-    into a =
-        let s = Among-from-map plain y new a in
-        ⊎_elim (λ b. inr (subst (λ (d : Due). Among d (map plain old)) s.2 (Among-map plain s.0 old b))) (λ c. inl (c.0 ∙ ap Some s.2))
-        (p.comes s.0 s.1)
-
-    out : (hop_after S made.due.packet made.due.hop step ≡ Some y) ⊎ Among y (map plain old) → Among y (map plain new)
-    out (inl e) = p.follows y e
-    out (inr a) =
-        let s = Among-from-map plain y old a in
-        subst (λ (d : Due). Among d (map plain new)) s.2 (Among-map plain s.0 new (p.keeps s.0 s.1))
 
 -- there are not as many visits as numbers
 hops-few : (S : SetupView) → IsSetup S → hop_count S ≤ PACKETS_MAX * ROUTE_PIPES_MAX
@@ -159,8 +123,8 @@ module _ {S : SetupView} (is : IsSetup S) {J : List Visit} {next : DueVisit} {pi
   made-fits = let few = hops-few S is in omega (arith, few, next-counts)
 
   -- what is held after it
-  pub held-next : (step : Step) (new : List DueVisit) → step ≡ (visit_of S J next.due).step → PutsNext S next step rest new
-      → IsHeld S (J ++ visit_of S J next.due ∷ []) new
+  pub held-next : (step : Step) (new : List DueVisit) → step ≡ (visit_of S J next.due).step
+      → PutsNext (hop_after S next.due.packet next.due.hop step) next.index rest new → IsHeld S (J ++ visit_of S J next.due ∷ []) new
   held-next step new e puts = record {
     indexed = λ w a. ⊎_elim (λ b. t.making.held_is.indexed w ((t.takes.taken w).1 (inr b))) (λ c. indexed w c.0 c.1) (puts.comes w a);
     pending =
@@ -187,7 +151,7 @@ module _ {S : SetupView} (is : IsSetup S) {J : List Visit} {next : DueVisit} {pi
 
   -- one visit more is made
   pub making-next : (step : Step) (new : List DueVisit) (after : List SetupPipeView) → step ≡ (visit_of S J next.due).step
-      → PutsNext S next step rest new → ArePipes S (J ++ visit_of S J next.due ∷ []) after
+      → PutsNext (hop_after S next.due.packet next.due.hop step) next.index rest new → ArePipes S (J ++ visit_of S J next.due ∷ []) after
       → IsMaking S (J ++ visit_of S J next.due ∷ []) after new (made + 1)
   making-next step new after e puts are = record {
     setup = is;
@@ -207,30 +171,6 @@ making-whole {S} {J} m =
 pub making-few : {S : SetupView} {J : List Visit} {pipes : List SetupPipeView} {held : List DueVisit} {made : ℕ}
     → IsMaking S J pipes held made → length J ≤ hop_count S
 making-few {S} {J} m = growing_count S m.setup J m.growing
-
--- what follows a visit, put in or not
-pub puts-some : {S : SetupView} {made next : DueVisit} {step : Step} {old new : List DueVisit}
-    → Some next.due ≡ hop_after S made.due.packet made.due.hop step → next.index ≡ made.index
-    → ((w : DueVisit) → Among w new ↔ ((next ≡ w) ⊎ Among w old)) → PutsNext S made step old new
-puts-some {S} {made} {next} {step} {old} {new} follows index adds = record {
-  keeps = λ w a. (adds w).1 (inr a);
-  comes = λ w a. ⊎_elim
-      (λ e. inr (sym follows ∙ ap (λ (u : DueVisit). Some u.due) e, ap (λ (u : DueVisit). u.index) (sym e) ∙ index))
-      (λ b. inl b) ((adds w).0 a);
-  follows = λ x e. let some : Some next.due ≡ Some x = follows ∙ e in let due : next.due ≡ x = cc in
-      subst (λ d. Among d (map plain new)) due (Among-map plain next new ((adds next).1 (inl refl)));
-}
-
-pub puts-none : {S : SetupView} {made : DueVisit} {step : Step} {held : List DueVisit}
-    → None ≡ hop_after S made.due.packet made.due.hop step → PutsNext S made step held held
-puts-none {S} {made} {step} {held} none = record {
-  keeps = λ w a. a;
-  comes = λ w a. inl a;
-  follows = λ x e. clash x (none ∙ e);
-}
-  where
-    clash : (x : Due) → None ≡ Some x → Among x (map plain held)
-    clash x e = cc
 
 pub follows-packet : (S : SetupView) (packet hop : ℕ) (step : Step) (y : Due) → Some y ≡ hop_after S packet hop step → y.packet ≡ packet
 follows-packet S packet hop step y e =

@@ -1,30 +1,17 @@
 -- The due visits that the maker of the journal holds, each with the index of its packet.
-use Rattle.std.specs.Prelude.{◌≡◌, ◌≢◌, ◌⊎◌, ◌↔◌, ℕ, ◌<◌, List, length, map, Some, slice_get}
+use Rattle.std.specs.Prelude.{◌≡◌, ℕ, ◌<◌, List, length, map, Some, slice_get}
 use Rattle.mn_base.specs.Among.{Among}
 use Rattle.mn_base.specs.declared.due.Due.{Due}
-use Rattle.pipe.specs.declared.step.Step.{Step}
-use Rattle.mn_base.specs.Canonical.{Before}
 use Rattle.pipe.specs.Scheme.{HoldsPending, IsGrowingBy}
+use Rattle.pipe.specs.declared.due_visits.DueVisit.{DueVisit}
+use Rattle.pipe.specs.HeldVisits.{plain, TakesVisit}
 use Rattle.journal.specs.declared.setup.PacketPlan.{PacketPlan}
 use Rattle.journal.specs.declared.visit.Visit.{Visit}
-use Rattle.journal.specs.declared.due_visits.DueVisit.{DueVisit}
 use Rattle.journal.specs.SetupView.{SetupView, route_of}
 use Rattle.journal.specs.IsSetup.{IsSetup}
-use Rattle.journal.specs.Hops.{entry, hop_after}
+use Rattle.journal.specs.Hops.{entry}
 use Rattle.journal.specs.IsJournal.{scheme_of}
 use Rattle.journal.specs.IsPipe.{SetupPipeView, ArePipes}
-
-abbrev pub plain : DueVisit → Due
-plain w = w.due
-
--- no visit of this packet is held
-abbrev pub HasNone : List DueVisit → ℕ → Type 0
-HasNone held packet = (w : DueVisit) → Among w held → w.due.packet ≢ packet
-
--- the first in canonical order is taken out
-pub record TakesVisit (old : List DueVisit) (first : DueVisit) (new : List DueVisit) : Type 0 where
-  pub taken : (w : DueVisit) → Among w old ↔ ((first ≡ w) ⊎ Among w new)
-  pub before : (w : DueVisit) → Among w new → Before first.due w.due
 
 -- the packet of a due visit stands at its index
 pub record IsIndexed (S : SetupView) (w : DueVisit) : Type 0 where
@@ -32,13 +19,6 @@ pub record IsIndexed (S : SetupView) (w : DueVisit) : Type 0 where
   pub at : slice_get S.packets w.index ≡ Some plan
   pub number : plan.number ≡ w.due.packet
   pub within : w.due.hop < length (route_of S w.due.packet)
-
--- what follows a visit with this step, if anything, is put in, with the packet's index
-pub record PutsNext (S : SetupView) (made : DueVisit) (step : Step) (old new : List DueVisit) : Type 0 where
-  pub keeps : (w : DueVisit) → Among w old → Among w new
-  pub comes : (w : DueVisit) → Among w new
-      → Among w old ⊎ ((hop_after S made.due.packet made.due.hop step ≡ Some w.due) × (w.index ≡ made.index))
-  pub follows : (x : Due) → hop_after S made.due.packet made.due.hop step ≡ Some x → Among x (map plain new)
 
 -- a due visit is the first of a packet below this index
 pub record IsFirstBelow (S : SetupView) (indexes : ℕ) (w : DueVisit) : Type 0 where

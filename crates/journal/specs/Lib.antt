@@ -1,4 +1,3 @@
-pub mod Entries
 pub mod Fates
 pub mod Held
 pub mod Hops

@@ -4,7 +4,6 @@
 //! (specs/Journal.antt) and `fate_of` (specs/Fates.antt).
 #![tactic(auto)]
 
-mod due_visits;
 mod fate;
 pub mod laws;
 mod lazy_words;

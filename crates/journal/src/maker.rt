@@ -1,21 +1,21 @@
 ghost use Rattle.std.specs.Prelude.{AllPairs, ◌≡◌, ◌+◌, ◌≤◌, ◌<◌, ◌∷◌, ◌++◌, [], List, length, Some, slice_get, IfOk, IfSome, OnOk};
 ghost use Rattle.std.specs.Option.{option_map};
+ghost use Rattle.pipe.specs.HeldVisits.{plain, HasNone, PutsNext};
 ghost use Rattle.journal.specs.declared.setup.PacketPlan.{PacketPlan};
 ghost use Rattle.journal.specs.declared.visit.Visit.{Visit};
 ghost use Rattle.journal.specs.IsSetup.{IsSetup};
 ghost use Rattle.journal.specs.SetupView.{packet_of, route_of};
-ghost use Rattle.journal.specs.Hops.{entry};
+ghost use Rattle.journal.specs.Hops.{entry, hop_after};
 ghost use Rattle.journal.specs.Steps.{visit_of};
 ghost use Rattle.journal.specs.Journal.{hop_count, journal_of};
-ghost use Rattle.journal.specs.Held.{plain, HasNone, IsIndexed, PutsNext, HaveEntered, IsHeld, IsMaking, IsToMake};
+ghost use Rattle.journal.specs.Held.{IsIndexed, HaveEntered, IsHeld, IsMaking, IsToMake};
 
-use crate::due_visits::{DueVisit, DueVisits};
 use crate::setup::{PacketPlan, Setup};
 use crate::setup_pipe::{SetupPipe, idle_pipes};
 use crate::steps::{first_due, next_due, pipe_at};
 use crate::visit::Visit;
 use mn_base::NoMemory;
-use pipe::Step;
+use pipe::{DueVisit, DueVisits, Step};
 use std::alloc::Global;
 
 /// The one journal of a setup: all visits of its packets to its pipes, in canonical order, each with what comes of it.
@@ -97,7 +97,7 @@ fn follow_up(
     requires packet { plan.number ≡ made.due.packet }
     requires within { made.due.hop < length (route_of setup.now plan.number) }
     requires none { HasNone due.old made.due.packet }
-    ensures { OnOk result (PutsNext setup.now made step due.old due.new) }
+    ensures { OnOk result (PutsNext (hop_after setup.now made.due.packet made.due.hop step) made.index due.old due.new) }
 {
     match next_due(setup, plan, made.due.hop, step) {
         Some(next) => due.add(DueVisit {

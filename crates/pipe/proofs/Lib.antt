@@ -4,6 +4,8 @@ pub mod CanonicalOrder
 pub mod Coming
 pub mod Growing
 pub mod Grown
+pub mod HeldOrder
+pub mod HeldVisits
 pub mod OneJournal
 pub mod Origins
 pub mod Params

@@ -1,7 +1,9 @@
 pub mod Dues
 pub mod Finishes
+pub mod HeldVisits
 pub mod Inside
 pub mod Params
 pub mod PipeView
 pub mod Scheme
 pub mod Steps
+pub mod VisitEntries

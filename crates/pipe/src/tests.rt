@@ -1,9 +1,9 @@
 ghost use Rattle.std.specs.Prelude.{◌≡◌};
 ghost use Rattle.mn_base.specs.Ranges.{IsBandwidth, IsLatency, IsQueueLimit};
 
-use super::{Pipe, Step};
-use mn_base::PipeParams;
+use super::{DueVisit, DueVisits, Pipe, Step};
 use mn_base::limits::{KEEP_MAX, TICK_NS_DEFAULT};
+use mn_base::{Due, PipeParams};
 use std::alloc::Global;
 use std::test::Fail;
 
@@ -115,5 +115,27 @@ fn a_change_counts_from_its_tick_on(rt: HostRuntime) -> Result<(), Fail> {
     assert_eq!(rt; changing.visit(19, 1_000, false)?, Step::Full);
     assert_eq!(rt; changing.visit(20, 1_000, false)?, Step::Pass { exit: 40 });
     assert_eq!(rt; changing.visits(), 5);
+    Ok(())
+}
+
+/// A due visit of a packet that stands at the index of its number.
+fn due_visit(tick: u64, packet: u32, hop: u32) -> DueVisit
+    ensures packet { result.due.packet ≡ packet }
+{
+    DueVisit {
+        due: Due { tick, packet, hop },
+        index: packet,
+    }
+}
+
+#[test]
+fn due_visits_come_by_tick_and_then_by_packet(rt: HostRuntime) -> Result<(), Fail> {
+    let firsts = vec![in rt.alloc(); due_visit(5, 2, 0), due_visit(3, 4, 0)]?;
+    let mut held = DueVisits::of_firsts(rt.alloc(), firsts);
+    held.add(due_visit(5, 3, 1))?;
+    assert_eq!(rt; held.pop(), Some(due_visit(3, 4, 0)));
+    assert_eq!(rt; held.pop(), Some(due_visit(5, 2, 0)));
+    assert_eq!(rt; held.pop(), Some(due_visit(5, 3, 1)));
+    assert_eq!(rt; held.pop(), None);
     Ok(())
 }

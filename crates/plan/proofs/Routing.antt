@@ -13,7 +13,7 @@ use Rattle.routes.specs.declared.graph.Arc.{Arc}
 use Rattle.plan.specs.Binding.{Binding, IsRouted}
 use Rattle.plan.specs.Plans.{joins}
 use Rattle.plan.specs.Router.{IsKnownAnswer, IsRouter, Uses, IsRouterAnswer, IsFirstAnswer}
-use Rattle.journal.specs.Entries.{pair_cmp}
+use Rattle.pipe.specs.VisitEntries.{pair_cmp}
 use Rattle.plan.proofs.FirstUses.{joined_ends, ends_joined, place_below, place_stays, place_new, any_push}
 
 -- ---- pairs as keys

@@ -4,7 +4,7 @@ use Rattle.std.specs.List.{list_any, position_or_len}
 use Rattle.std.specs.BTreeMap.{get}
 use Rattle.mn_base.specs.declared.causes.Unbound.{Unbound}
 use Rattle.routes.specs.declared.graph.Arc.{Arc}
-use Rattle.journal.specs.Entries.{pair_cmp}
+use Rattle.pipe.specs.VisitEntries.{pair_cmp}
 use Rattle.plan.specs.Binding.{Binding, IsRouted}
 use Rattle.plan.specs.Plans.{joins, has_ends}
 use Rattle.plan.specs.declared.uses.Use.{Use}

@@ -1,5 +1,5 @@
 //! Plans: from a topology, a trace, options and a directory text to a setup, the bytes of its packets, and the packets without a route.
-//! It depends on distill, routes, ownership, changes, ip_bind, pcap_io, journal, topo and mn_base.
+//! It depends on distill, routes, ownership, changes, ip_bind, pcap_io, pipe, journal, topo and mn_base.
 //! Its contracts speak in `IsPlan` (specs/Setups.antt), `IsBinding` (specs/Binding.antt) and `PlanFirst` (specs/Faults.antt).
 #![tactic(auto)]
 

@@ -4,7 +4,9 @@ use Rattle.std.specs.List.{enumerate_from}
 use Rattle.mn_base.specs.Among.{Among}
 use Rattle.mn_base.specs.declared.due.Due.{Due}
 use Rattle.loss_words.specs.Word.{loss_word, early_word}
-use Rattle.pipe.specs.Scheme.{IsGrowingBy, HoldsPending, TakesFirst}
+use Rattle.pipe.specs.declared.due_visits.DueVisit.{DueVisit}
+use Rattle.pipe.specs.HeldVisits.{plain, TakesVisit}
+use Rattle.pipe.specs.Scheme.{IsGrowingBy, HoldsPending}
 use Rattle.red_queue.specs.declared.setup.RedPacket.{RedPacket}
 use Rattle.red_queue.specs.declared.step.RedStep.{RedStep}
 use Rattle.red_queue.specs.declared.visit.RedVisit.{RedVisit}
@@ -52,11 +54,16 @@ pub record AreAtWork (R : RedSetupView) (J : List RedVisit) (pipes : List AtWork
 pub record AreIdle (R : RedSetupView) (pipes : List AtWorkView) : Type 0 where
   pub each : (hop : ℕ) (d : AtWorkView) → hop < length pipes → IsAtWork R [] hop (slice_index_or pipes hop d)
 
+-- the index of each packet is its number
+abbrev pub AreNumbered : List DueVisit → Type 0
+AreNumbered held = (w : DueVisit) → Among w held → w.index ≡ w.due.packet
+
 -- the packets below this number are due at the first pipe, and nothing else
-pub record HaveRedEntered (R : RedSetupView) (numbers : ℕ) (held : List Due) : Type 0 where
-  pub below : (x : Due) → Among x held → x.packet < numbers
-  pub first : (x : Due) → Among x held → Among x (map red_entry (enumerate_from 0 R.packets))
-  pub all : (n : ℕ) (p : RedPacket) → n < numbers → slice_get R.packets n ≡ Some p → Among (red_entry (n, p)) held
+pub record HaveRedEntered (R : RedSetupView) (numbers : ℕ) (held : List DueVisit) : Type 0 where
+  pub numbered : AreNumbered held
+  pub below : (w : DueVisit) → Among w held → w.due.packet < numbers
+  pub first : (w : DueVisit) → Among w held → Among w.due (map red_entry (enumerate_from 0 R.packets))
+  pub all : (n : ℕ) (p : RedPacket) → n < numbers → slice_get R.packets n ≡ Some p → Among (red_entry (n, p)) (map plain held)
 
 -- a due visit is as late as its packet entered, plus what the pipes so far may keep it
 abbrev pub IsInTime : RedSetupView → Due → Type 0
@@ -65,15 +72,17 @@ IsInTime R x =
     → x.tick * R.tick_ns + sum_by (red_stay R.tick_ns) (drop x.hop R.pipes) ≤ p.entry_tick * R.tick_ns + red_way R
 
 -- the maker has made the visits of J, with these pipes, and holds what is pending
-pub record IsRedMaking (R : RedSetupView) (J : List RedVisit) (pipes : List AtWorkView) (held : List Due) : Type 0 where
+pub record IsRedMaking (R : RedSetupView) (J : List RedVisit) (pipes : List AtWorkView) (held : List DueVisit) : Type 0 where
   pub growing : IsGrowingBy (red_scheme R) J
   pub pipes_are : AreAtWork R J pipes
-  pub pending : HoldsPending (red_scheme R) J held
-  pub in_time : (x : Due) → Among x held → IsInTime R x
+  pub numbered : AreNumbered held
+  pub pending : HoldsPending (red_scheme R) J (map plain held)
+  pub in_time : (w : DueVisit) → Among w held → IsInTime R w.due
   pub exits : ExitsFit R J
 
 -- the same, but that the next visit was taken out
-pub record IsRedToMake (R : RedSetupView) (J : List RedVisit) (next : Due) (pipes : List AtWorkView) (rest : List Due) : Type 0 where
-  pub held : List Due
+pub record IsRedToMake (R : RedSetupView) (J : List RedVisit) (next : DueVisit) (pipes : List AtWorkView) (rest : List DueVisit)
+    : Type 0 where
+  pub held : List DueVisit
   pub making : IsRedMaking R J pipes held
-  pub takes : TakesFirst held next rest
+  pub takes : TakesVisit held next rest

@@ -1,5 +1,5 @@
 //! Pipes in a row whose queues drop early, the one list of all visits to them, and the report of what came of each packet.
-//! It depends on pipe, loss_words, deadline_heap and mn_base.
+//! It depends on pipe, loss_words and mn_base.
 //! Its contracts speak of `red_outcome` (specs/Outcome.antt), `IsRedJournal` and `red_journal_of` (specs/Journal.antt), and
 //! `red_report_text` (specs/Report.antt).
 #![tactic(auto)]

@@ -1,10 +1,8 @@
-ghost use Rattle.std.specs.Prelude.{◌≡◌, ◌+◌, ◌<◌, ◌∷◌, ◌++◌, [], List, length, IfOk, OnOk};
-ghost use Rattle.mn_base.specs.Among.{Among};
-ghost use Rattle.deadline_heap.specs.Canonical.{HasNoneOf};
-ghost use Rattle.pipe.specs.Scheme.{HoldsPending, AddsNext};
+ghost use Rattle.std.specs.Prelude.{AllPairs, ◌≡◌, ◌+◌, ◌<◌, ◌∷◌, ◌++◌, [], List, length, IfOk, OnOk};
+ghost use Rattle.pipe.specs.HeldVisits.{HasNone, PutsNext};
 ghost use Rattle.red_queue.specs.declared.visit.RedVisit.{RedVisit};
 ghost use Rattle.red_queue.specs.SetupView.{IsRedSetup};
-ghost use Rattle.red_queue.specs.Journal.{red_hop_after, red_visit_of, red_scheme, IsRedJournal, red_journal_of};
+ghost use Rattle.red_queue.specs.Journal.{red_hop_after, red_visit_of, IsRedJournal, red_journal_of};
 ghost use Rattle.red_queue.specs.Laws.{ExitsFit};
 ghost use Rattle.red_queue.specs.Making.{HaveRedEntered, IsRedMaking, IsRedToMake};
 
@@ -12,8 +10,8 @@ use crate::at_work::{AtWork, idle_pipes};
 use crate::setup::RedSetup;
 use crate::step::RedStep;
 use crate::visit::RedVisit;
-use deadline_heap::Heap;
 use mn_base::{Due, NoMemory};
+use pipe::{DueVisit, DueVisits};
 use std::alloc::Global;
 
 /// The one journal of pipes in a row: all visits of the packets to the pipes, in canonical order, each with what comes of it.
@@ -25,7 +23,7 @@ pub fn red_journal(alloc: Global, setup: &RedSetup) -> Result<Vec<RedVisit>, NoM
 {
     let mut maker = Maker::start(alloc, setup)?;
     let mut visits = Vec::new(alloc);
-    while let Some(next) = maker.due.pop_before(u64::MAX) {
+    while let Some(next) = maker.due.pop() {
         let visit = maker.make(setup, next)?;
         visits.push(visit)?;
     }
@@ -36,7 +34,7 @@ pub fn red_journal(alloc: Global, setup: &RedSetup) -> Result<Vec<RedVisit>, NoM
 #[derive(Drop)]
 struct Maker {
     pipes: Vec<AtWork>,
-    due: Heap,
+    due: DueVisits,
 }
 
 impl Maker {
@@ -51,67 +49,80 @@ impl Maker {
     }
 
     /// Makes the due visit that was taken out last, and puts in the one that follows, for each list of visits made so far.
-    fn make(&mut self, setup: &RedSetup, next: Due) -> Result<RedVisit, NoMemory>
+    fn make(&mut self, setup: &RedSetup, next: DueVisit) -> Result<RedVisit, NoMemory>
         requires setup { IsRedSetup setup.now }
         requires next { (J : List RedVisit) × IsRedToMake setup.now J next self.old.pipes.items self.old.due }
         ensures visit { IfOk result (λ visit. (J : List RedVisit)
-            → IsRedToMake setup.now J next self.old.pipes.items self.old.due → visit ≡ red_visit_of setup.now J next) }
+            → IsRedToMake setup.now J next self.old.pipes.items self.old.due → visit ≡ red_visit_of setup.now J next.due) }
         ensures making { OnOk result ((J : List RedVisit) → IsRedToMake setup.now J next self.old.pipes.items self.old.due
-            → IsRedMaking setup.now (J ++ red_visit_of setup.now J next ∷ []) self.new.pipes.items self.new.due) }
+            → IsRedMaking setup.now (J ++ red_visit_of setup.now J next.due ∷ []) self.new.pipes.items self.new.due) }
     {
-        let len = setup.packets[next.packet as usize].len;
-        let step = self.pipes[next.hop as usize].decide(next, len)?;
+        let len = setup.packets[next.index as usize].len;
+        let step = self.pipes[next.due.hop as usize].decide(next.due, len)?;
         follow_up(setup, &mut self.due, next, step)?;
         Ok(RedVisit {
-            tick: next.tick,
-            packet: next.packet,
-            hop: next.hop,
+            tick: next.due.tick,
+            packet: next.due.packet,
+            hop: next.due.hop,
             step,
         })
     }
 }
 
 /// Puts in the visit that follows one with this step, if the packet goes on.
-fn follow_up(setup: &RedSetup, due: &mut Heap, made: Due, step: RedStep) -> Result<(), NoMemory>
+fn follow_up(
+    setup: &RedSetup,
+    due: &mut DueVisits,
+    made: DueVisit,
+    step: RedStep,
+) -> Result<(), NoMemory>
     requires setup { IsRedSetup setup.now }
-    requires within { made.hop < length setup.now.pipes }
-    requires none { HasNoneOf made.packet due.old }
-    ensures { OnOk result (AddsNext (red_hop_after setup.now made.packet made.hop step) due.old due.new) }
+    requires within { made.due.hop < length setup.now.pipes }
+    requires none { HasNone due.old made.due.packet }
+    ensures { OnOk result (PutsNext (red_hop_after setup.now made.due.packet made.due.hop step) made.index due.old due.new) }
 {
     let RedStep::Pass { exit } = step else {
         return Ok(());
     };
-    if made.hop as usize + 1 >= setup.pipes.len() {
+    if made.due.hop as usize + 1 >= setup.pipes.len() {
         return Ok(());
     }
-    due.insert(Due {
+    let next = Due {
         tick: exit,
-        packet: made.packet,
-        hop: made.hop + 1,
+        packet: made.due.packet,
+        hop: made.due.hop + 1,
+    };
+    due.add(DueVisit {
+        due: next,
+        index: made.index,
     })
 }
 
 /// The first visit of each packet.
-fn first_dues(alloc: Global, setup: &RedSetup) -> Result<Heap, NoMemory>
+fn first_dues(alloc: Global, setup: &RedSetup) -> Result<DueVisits, NoMemory>
     requires { IsRedSetup setup.now }
     ensures { IfOk result (HaveRedEntered setup.now (length setup.now.packets)) }
 {
-    let mut due = Heap::new(alloc)?;
+    let mut firsts = Vec::with_capacity(alloc, setup.packets.len())?;
     for number in 0..setup.packets.len() as u32 {
-        enter(setup, &mut due, number)?;
+        enter(setup, &mut firsts, number)?;
     }
-    Ok(due)
+    Ok(DueVisits::of_firsts(alloc, firsts))
 }
 
 /// Puts in the first visit of the packet of this number.
-fn enter(setup: &RedSetup, due: &mut Heap, number: u32) -> Result<(), NoMemory>
+fn enter(setup: &RedSetup, firsts: &mut Vec<DueVisit>, number: u32) -> Result<(), NoMemory>
     requires within { number < length setup.now.packets }
-    requires entered { HaveRedEntered setup.now number due.old }
-    ensures { OnOk result (HaveRedEntered setup.now (number + 1) due.new) }
+    requires entered { HaveRedEntered setup.now number firsts.old.items }
+    requires rising { AllPairs (λ v w. v.due.packet < w.due.packet) firsts.old.items }
+    ensures entered { OnOk result (HaveRedEntered setup.now (number + 1) firsts.new.items) }
+    ensures rising { OnOk result (AllPairs (λ v w. v.due.packet < w.due.packet) firsts.new.items) }
 {
-    due.insert(Due {
+    let due = Due {
         tick: setup.packets[number as usize].entry_tick,
         packet: number,
         hop: 0,
-    })
+    };
+    firsts.push(DueVisit { due, index: number })?;
+    Ok(())
 }

@@ -15,7 +15,7 @@ use Rattle.std.proofs.lemmas.List.MinMax.{ranks_by}
 use Rattle.std.proofs.lemmas.List.Sorted.{sorted_far, IsPermutation-refl, IsPermutation-sym, IsPermutation-cons, IsPermutation-trans, IsPermutation-middle}
 use Rattle.mn_base.specs.Among.{Among}
 use Rattle.mn_base.proofs.Members.{Among-append, Among-index, Among-from-map, Among-from-filter_map, index_of, SplitAt, split_at}
-use Rattle.journal.proofs.HeldOrder.{among-permuted}
+use Rattle.pipe.proofs.HeldOrder.{among-permuted}
 use Rattle.parcel.proofs.Lookaheads.{Among-from-flat_map}
 use Rattle.parcel.proofs.InOrder.{Within, before-rest, rest-ordered, permuted-differ}
 

@@ -12,7 +12,7 @@ use Rattle.journal.specs.SetupView.{SetupView}
 use Rattle.journal.specs.IsSetup.{IsSetup}
 use Rattle.journal.specs.Journal.{journal_of}
 use Rattle.journal.proofs.Packets.{among-get}
-use Rattle.journal.proofs.HeldOrder.{among-permuted}
+use Rattle.pipe.proofs.HeldOrder.{among-permuted}
 use Rattle.parcel.specs.declared.counts.PipeCounts.{PipeCounts}
 use Rattle.parcel.specs.CoreResultView.{CoreResultView}
 use Rattle.parcel.specs.Owners.{owner_of, own_pipes}

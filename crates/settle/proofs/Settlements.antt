@@ -16,7 +16,7 @@ use Rattle.journal.specs.IsSetup.{IsSetup}
 use Rattle.journal.specs.Journal.{journal_of}
 use Rattle.journal.specs.Fates.{fate_of}
 use Rattle.journal.proofs.Packets.{among-get, packet-known}
-use Rattle.journal.proofs.HeldOrder.{among-permuted}
+use Rattle.pipe.proofs.HeldOrder.{among-permuted}
 use Rattle.parcel.specs.declared.core_result.Settled.{Settled}
 use Rattle.parcel.specs.Owners.{entry_core}
 use Rattle.parcel.specs.Counts.{counts_of}

@@ -1,6 +1,7 @@
 use Rattle.std.proofs.Common.{◌+◌, AllPairs, sym, subst, ◌<◌}
 use Rattle.journal.specs.Held.{HaveEntered}
-use Rattle.journal.proofs.HeldFirst.{at-within, entered-none, entered-some, entered-rising, pushed-among}
+use Rattle.pipe.proofs.HeldVisits.{pushed-among}
+use Rattle.journal.proofs.HeldFirst.{at-within, entered-none, entered-some, entered-rising}
 use Rattle.journal.proofs.maker.enter.Goals as goal
 
 pub returns-in_ok-push-clause-entered : goal.returns-in_ok-push-clause-entered

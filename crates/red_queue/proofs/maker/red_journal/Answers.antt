@@ -3,29 +3,19 @@ use Rattle.std.proofs.lemmas.List.{length_push}
 use Rattle.red_queue.specs.declared.visit.RedVisit.{RedVisit}
 use Rattle.red_queue.specs.Journal.{red_visit_of}
 use Rattle.red_queue.specs.Making.{IsRedMaking, IsRedToMake}
-use Rattle.red_queue.proofs.Making.{takes-head, none-held, making-whole, making-is, making-few}
+use Rattle.red_queue.proofs.Making.{making-whole, making-is, making-few}
 use Rattle.red_queue.proofs.maker.red_journal.Goals as goal
 
 pub make-requires-clause-next : goal.make-requires-clause-next
-make-requires-clause-next c = (
-  c.loop-next.visits.items,
-  record {
-    held = c.loop-next.maker.due;
-    making = c.loop-next.invariant;
-    takes = takes-head c.in-Some.next c.loop-next.maker.due c.pop_before.new.self c.in-Some.ensures.first.0 c.in-Some.ensures.canonical;
-  },
-)
+make-requires-clause-next c =
+    (c.loop-next.visits.items, record { held = c.loop-next.maker.due; making = c.loop-next.invariant; takes = c.in-Some.ensures.first })
 
 to_make : (c : goal.In_ok-push)
-    → IsRedToMake c.args.setup.now c.loop-next.visits.items c.in-Some.next c.loop-next.maker.pipes.items c.pop_before.new.self
-to_make c = record {
-  held = c.loop-next.maker.due;
-  making = c.loop-next.invariant;
-  takes = takes-head c.in-Some.next c.loop-next.maker.due c.pop_before.new.self c.in-Some.ensures.first.0 c.in-Some.ensures.canonical;
-}
+    → IsRedToMake c.args.setup.now c.loop-next.visits.items c.in-Some.next c.loop-next.maker.pipes.items c.pop.new.self
+to_make c = record { held = c.loop-next.maker.due; making = c.loop-next.invariant; takes = c.in-Some.ensures.first }
 
 made : (c : goal.In_ok-push)
-    → c.push.new.self.items ≡ c.loop-next.visits.items ++ red_visit_of c.args.setup.now c.loop-next.visits.items c.in-Some.next ∷ []
+    → c.push.new.self.items ≡ c.loop-next.visits.items ++ red_visit_of c.args.setup.now c.loop-next.visits.items c.in-Some.next.due ∷ []
 made c =
     c.in_ok-push.ensures.items
     ∙ ap (λ (v : RedVisit). c.loop-next.visits.items ++ v ∷ []) (c.in_ok-visit.ensures.visit c.loop-next.visits.items (to_make c))
@@ -42,14 +32,13 @@ loop-next-smaller c =
       arith,
       few,
       ap length (made c),
-      length_push c.loop-next.visits.items (red_visit_of c.args.setup.now c.loop-next.visits.items c.in-Some.next),
+      length_push c.loop-next.visits.items (red_visit_of c.args.setup.now c.loop-next.visits.items c.in-Some.next.due),
     )
 
 whole : (c : goal.After-drop-maker-4) → IsRedMaking c.args.setup.now c.loop-next.visits.items c.loop-next.maker.pipes.items []
 whole c =
     subst (IsRedMaking c.args.setup.now c.loop-next.visits.items c.loop-next.maker.pipes.items)
-    (none-held c.requires c.loop-next.maker.due c.loop-next.invariant c.in_default.ensures.canonical c.in_default.ensures.none.1)
-    c.loop-next.invariant
+    c.in_default.ensures.none c.loop-next.invariant
 
 pub returns-clause-journal : goal.returns-clause-journal
 returns-clause-journal c = making-is c.requires (whole c)

@@ -2,7 +2,7 @@ use Rattle.std.proofs.Common.{ℕ, cond, Some, Result, sym, ap, ◌∙◌}
 use Rattle.std.specs.BTreeMap.{BTreeMap, get, is_at}
 use Rattle.mn_base.specs.declared.causes.Unbound.{Unbound}
 use Rattle.routes.specs.GraphView.{GraphView}
-use Rattle.journal.specs.Entries.{pair_cmp}
+use Rattle.pipe.specs.VisitEntries.{pair_cmp}
 use Rattle.plan.specs.Router.{bindings_of}
 use Rattle.plan.proofs.Routing.{answered_again, held, first_answer}
 use Rattle.plan.proofs.router.Router.find.Goals as goal

@@ -21,9 +21,9 @@ use Rattle.mn_base.proofs.Members.{All-Among, among-from_contains, contains-from
 use Rattle.mn_base.specs.declared.due.Due.{Due}
 use Rattle.mn_base.specs.Canonical.{Before, is_before}
 use Rattle.pipe.proofs.CanonicalOrder.{before-transitive, before-either, not_before-transitive, is_before-true, is_before-false}
-use Rattle.journal.specs.declared.due_visits.DueVisit.{DueVisit}
-use Rattle.journal.specs.Entries.{HeapEntry, due_from_entry, pair_cmp, top_cmp, later_visits, of_packet, comes_first, early_of}
-use Rattle.journal.specs.Held.{HasNone, TakesVisit}
+use Rattle.pipe.specs.declared.due_visits.DueVisit.{DueVisit}
+use Rattle.pipe.specs.VisitEntries.{HeapEntry, due_from_entry, pair_cmp, top_cmp, later_visits, of_packet, comes_first, early_of}
+use Rattle.pipe.specs.HeldVisits.{HasNone, TakesVisit}
 
 -- a permutation keeps the members
 pub among-permuted : {X : Type 0} (z : X) (xs ys : List X) → IsPermutation xs ys → Among z xs → Among z ys

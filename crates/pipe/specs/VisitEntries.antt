@@ -5,8 +5,8 @@ use Rattle.std.specs.declared.cmp.Reverse.{Reverse}
 use Rattle.std.specs.Ordering.{nat_cmp, ordering_then}
 use Rattle.std.specs.BinaryHeap.{IsHeap, heap_items}
 use Rattle.mn_base.specs.Canonical.{Before, is_before}
-use Rattle.journal.specs.declared.due_visits.DueVisit.{DueVisit}
-use Rattle.journal.specs.declared.due_visits.DueVisits.TheInside.{Inside}
+use Rattle.pipe.specs.declared.due_visits.DueVisit.{DueVisit}
+use Rattle.pipe.specs.declared.due_visits.DueVisits.TheInside.{Inside}
 
 -- a due visit as it is ordered: tick and packet, then hop and index
 abbrev pub HeapEntry : Type 0

@@ -1,7 +1,7 @@
 use Rattle.std.proofs.Common.{subst, sym, arith, rules, ◌≤◌}
 use Rattle.std.proofs.lemmas.Fn.{always_returns_same}
-use Rattle.journal.proofs.HeldOrder.{many_of, held-firsts, among-sorted, tick_and_packet, sorted-once, sorted-rising}
-use Rattle.journal.proofs.due_visits.DueVisits.of_firsts.Goals as goal
+use Rattle.pipe.proofs.HeldOrder.{many_of, held-firsts, among-sorted, tick_and_packet, sorted-once, sorted-rising}
+use Rattle.pipe.proofs.due_visits.DueVisits.of_firsts.Goals as goal
 
 pub invariant_of-result : goal.invariant_of-result
 invariant_of-result c =

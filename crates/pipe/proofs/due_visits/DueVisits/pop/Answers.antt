@@ -1,6 +1,6 @@
 use Rattle.std.proofs.Common.{◌<◌, nat_lt, length, ap, ◌∙◌, arith}
-use Rattle.journal.proofs.HeldOrder.{AreHeld, TakesEarly, TakesLate, early-once, early-takes, late-once, late-takes, early-ahead, late-ahead, early-parts, top-same, read-first, read-top, read-no_top}
-use Rattle.journal.proofs.due_visits.DueVisits.pop.Goals as goal
+use Rattle.pipe.proofs.HeldOrder.{AreHeld, TakesEarly, TakesLate, early-once, early-takes, late-once, late-takes, early-ahead, late-ahead, early-parts, top-same, read-first, read-top, read-no_top}
+use Rattle.pipe.proofs.due_visits.DueVisits.pop.Goals as goal
 
 held : (c : goal.After-self-1) → AreHeld c.self.inside.firsts.items c.self.inside.next c.self.inside.laters.data.items
 held c = record { rising = c.self.invariant.rising; once = c.self.invariant.once }

@@ -1,7 +1,7 @@
 use Rattle.std.proofs.Common.{drop, sym, subst}
-use Rattle.journal.specs.Held.{HasNone}
-use Rattle.journal.proofs.HeldOrder.{added-once, added-among}
-use Rattle.journal.proofs.due_visits.DueVisits.add.Goals as goal
+use Rattle.pipe.specs.HeldVisits.{HasNone}
+use Rattle.pipe.proofs.HeldOrder.{added-once, added-among}
+use Rattle.pipe.proofs.due_visits.DueVisits.add.Goals as goal
 
 pub invariant_of-self-2 : goal.invariant_of-self-2
 invariant_of-self-2 c = record {
@@ -14,8 +14,8 @@ invariant_of-self-2 c = record {
       (subst (λ held. HasNone held c.args.next.due.packet) (sym c.self.view_is) c.requires) c.in_ok-push.ensures.permutation;
 }
 
-pub returns : goal.returns
-returns c =
+pub returns-clause-added : goal.returns-clause-added
+returns-clause-added c =
     rw (← c.self.view_is)
     (added-among (drop c.self.inside.next c.self.inside.firsts.items) c.self.inside.laters.data.items c.push.new.self.data.items _
     c.in_ok-push.ensures.permutation)
