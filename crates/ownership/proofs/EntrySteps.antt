@@ -86,10 +86,10 @@ all_entries d owners entries p done had =
     ∙ sym (get_or-map-range_with_len (entry_at d.pipes owners) 0 d.nodes v v 0 low (omega arith)))
 
 -- the same in the code's lists
-pub entry_written : (d : DistilledView) (owners entries : List ℕ) (ps : List DistilledPipe) (n : ℕ) (other : DistilledPipe)
+pub entry_written : {d : DistilledView} {owners entries : List ℕ} (ps : List DistilledPipe) (n : ℕ) (other : DistilledPipe)
     → ps ≡ d.pipes → KeepsPipeLimits d → 0 < n → n ≤ length ps → HasEntries d owners n entries
     → HasEntries d owners (n - 1) (set entries (get_or ps (n - 1) other).from (get_or owners (n - 1) 0))
-entry_written d owners entries ps n other same keeps some most had =
+entry_written {d} {owners} {entries} ps n other same keeps some most had =
     one_entry_more d owners entries (n - 1) (get_or ps (n - 1) other) (get_or owners (n - 1) 0) within
     (subst (λ (xs : List DistilledPipe). slice_get d.pipes (n - 1) ≡ Some (get_or xs (n - 1) other)) (sym same)
     (slice_get-get_or d.pipes (n - 1) other within))

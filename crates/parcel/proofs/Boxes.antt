@@ -134,17 +134,28 @@ within_boxes : (s : Inside) → AreBoxes s → (sender receiver k : ℕ) → sen
     → k ≡ place sender receiver → k < length s.boxes.items
 within_boxes s are sender receiver k low also is = omega (arith, are.count, are.cores)
 
-pub posts_box : (s : Inside) (p : PlainBoxesView) → boxes_view s ≡ p → AreBoxes s → (to k : ℕ) → to < p.setup.cores → k ≡ place s.core to
-    → (old : PlainBox) → old ≡ slice_index_or s.boxes.items k old → is_some old.parcel ≡ false → (new : ParcelView)
+-- A box is in hand for a trade with another core: `old` was read at k out of boxes that are well, and the setup has the core.
+pub record IsLent (s : Inside) (p : PlainBoxesView) (other k : ℕ) (old : PlainBox) : Type 0 where
+  pub view_is : boxes_view s ≡ p
+  pub are : AreBoxes s
+  pub known : other < p.setup.cores
+  pub read : old ≡ slice_index_or s.boxes.items k old
+
+-- an empty box to another core gets a parcel
+pub posts_box : {s : Inside} {p : PlainBoxesView} {to k : ℕ} {old : PlainBox} → IsLent s p to k old → k ≡ place s.core to
+    → is_some old.parcel ≡ false → (new : ParcelView)
     → Posts p (boxes_view record s { boxes = with_item s.boxes k record { taken = old.taken; parcel = Some new } }) to
-posts_box s p is are to k known at_k old read free new =
-    let low : to < s.setup.now.cores = subst (λ (v : PlainBoxesView). to < v.setup.cores) (sym is) known in
+posts_box {s} {p} {to} {k} {old} lent at_k free new =
+    let is : boxes_view s ≡ p = lent.view_is in
+    let are : AreBoxes s = lent.are in
+    let low : to < s.setup.now.cores = subst (λ (v : PlainBoxesView). to < v.setup.cores) (sym is) lent.known in
     let within : k < length s.boxes.items = within_boxes s are s.core to k are.core low at_k in
     let core : s.core ≡ p.core = ap (λ (v : PlainBoxesView). v.core) is in
     let here : k ≡ place p.core to = at_k ∙ ap (λ (n : ℕ). place n to) core in
     let fresh : PlainBox = record { taken = old.taken; parcel = Some new } in
     let after : PlainBoxesView = boxes_view record s { boxes = with_item s.boxes k fresh } in
-    let seen : box_at p p.core to ≡ seen_box old = subst (λ (n : ℕ). at p n ≡ seen_box old) here (seen_at s p is k old within read) in
+    let seen : box_at p p.core to ≡ seen_box old =
+    subst (λ (n : ℕ). at p n ≡ seen_box old) here (seen_at s p is k old within lent.read) in
     let none_there : parcels_in old.parcel ≡ 0 = ap parcels_in (none old.parcel free) in
     let posted : posted_to p to ≡ old.taken + parcels_in old.parcel = ap (λ (b : BoxView). b.posted) seen in
     posts_one p after to (seen_box fresh) (omega (arith, are.cores))
@@ -156,18 +167,21 @@ posts_box s p is are to k known at_k old read free new =
     none None free = refl
     none (Some x) free = cc
 
-pub takes_box : (s : Inside) (p : PlainBoxesView) → boxes_view s ≡ p → AreBoxes s → (from k : ℕ) → from < p.setup.cores → k ≡ place from s.core
-    → (old : PlainBox) → old ≡ slice_index_or s.boxes.items k old → (given : ParcelView) → old.parcel ≡ Some given
-    → (rest : Option ParcelView) → rest ≡ None
+-- a full box from another core gives its parcel
+pub takes_box : {s : Inside} {p : PlainBoxesView} {from k : ℕ} {old : PlainBox} → IsLent s p from k old → k ≡ place from s.core
+    → {given : ParcelView} → old.parcel ≡ Some given → (rest : Option ParcelView) → rest ≡ None
     → Takes p (boxes_view record s { boxes = with_item s.boxes k record { taken = old.taken + 1; parcel = rest } }) from
-takes_box s p is are from k known at_k old read given full rest bare =
-    let low : from < s.setup.now.cores = subst (λ (v : PlainBoxesView). from < v.setup.cores) (sym is) known in
+takes_box {s} {p} {from} {k} {old} lent at_k full rest bare =
+    let is : boxes_view s ≡ p = lent.view_is in
+    let are : AreBoxes s = lent.are in
+    let low : from < s.setup.now.cores = subst (λ (v : PlainBoxesView). from < v.setup.cores) (sym is) lent.known in
     let within : k < length s.boxes.items = within_boxes s are from s.core k low are.core at_k in
     let core : s.core ≡ p.core = ap (λ (v : PlainBoxesView). v.core) is in
     let here : k ≡ place from p.core = at_k ∙ ap (λ (n : ℕ). place from n) core in
     let new : PlainBox = record { taken = old.taken + 1; parcel = rest } in
     let after : PlainBoxesView = boxes_view record s { boxes = with_item s.boxes k new } in
-    let seen : box_at p from p.core ≡ seen_box old = subst (λ (n : ℕ). at p n ≡ seen_box old) here (seen_at s p is k old within read) in
+    let seen : box_at p from p.core ≡ seen_box old =
+    subst (λ (n : ℕ). at p n ≡ seen_box old) here (seen_at s p is k old within lent.read) in
     let one_there : parcels_in old.parcel ≡ 1 = ap parcels_in full in
     let none_left : parcels_in rest ≡ 0 = ap parcels_in bare in
     let posted : (box_at p from p.core).posted ≡ old.taken + parcels_in old.parcel = ap (λ (b : BoxView). b.posted) seen in
@@ -177,19 +191,22 @@ takes_box s p is are from k known at_k old read given full rest bare =
     (ap (λ (b : BoxView). b.taken + 1) (sym seen))
 
 -- the parcel in a box is that of the number to be taken
-pub parcel_in : (s : Inside) (p : PlainBoxesView) → boxes_view s ≡ p → AreBoxes s → (from k : ℕ) → from < p.setup.cores → k ≡ place from s.core
-    → (old : PlainBox) → old ≡ slice_index_or s.boxes.items k old → (given : ParcelView) → old.parcel ≡ Some given
-    → IsParcel p.setup from p.core (taken_from p from) given
-parcel_in s p is are from k known at_k old read given full =
-    let low : from < s.setup.now.cores = subst (λ (v : PlainBoxesView). from < v.setup.cores) (sym is) known in
+pub parcel_in : {s : Inside} {p : PlainBoxesView} {from k : ℕ} {old : PlainBox} → IsLent s p from k old → k ≡ place from s.core
+    → (given : ParcelView) → old.parcel ≡ Some given → IsParcel p.setup from p.core (taken_from p from) given
+parcel_in {s} {p} {from} {k} {old} lent at_k given full =
+    let is : boxes_view s ≡ p = lent.view_is in
+    let are : AreBoxes s = lent.are in
+    let low : from < s.setup.now.cores = subst (λ (v : PlainBoxesView). from < v.setup.cores) (sym is) lent.known in
     let within : k < length s.boxes.items = within_boxes s are from s.core k low are.core at_k in
     let there : slice_index_or s.boxes.items (place from s.core) bare_box ≡ old =
-    ap (λ (n : ℕ). slice_index_or s.boxes.items n bare_box) (sym at_k) ∙ get_or_default s.boxes.items k bare_box old within ∙ sym read in
+    ap (λ (n : ℕ). slice_index_or s.boxes.items n bare_box) (sym at_k) ∙ get_or_default s.boxes.items k bare_box old within
+    ∙ sym lent.read in
     let parcel = are.parcels from s.core given (omega (arith, are.cores, are.core)) (ap (λ (b : PlainBox). b.parcel) there ∙ full) in
     let numbered : IsParcel s.setup.now from s.core old.taken given =
     subst (λ (b : PlainBox). IsParcel s.setup.now from s.core b.taken given) there parcel in
     let seen : taken_from (boxes_view s) from ≡ old.taken =
-    ap (λ (b : BoxView). b.taken) (subst (λ (n : ℕ). at (boxes_view s) n ≡ seen_box old) at_k (seen_at s (boxes_view s) refl k old within read)) in
+    ap (λ (b : BoxView). b.taken)
+    (subst (λ (n : ℕ). at (boxes_view s) n ≡ seen_box old) at_k (seen_at s (boxes_view s) refl k old within lent.read)) in
     subst (λ (v : PlainBoxesView). IsParcel v.setup from v.core (taken_from v from) given) is
     (subst (λ (n : ℕ). IsParcel s.setup.now from s.core n given) (sym seen) numbered)
 
@@ -288,57 +305,59 @@ some-one a b e = cc
 none-some : (o : Option ParcelView) (p : ParcelView) → o ≡ None → o ≡ Some p → ⊥
 none-some o p a b = cc
 
-module _ (s : Inside) (p : PlainBoxesView) (is : boxes_view s ≡ p) (are : AreBoxes s) where
-  -- a box without a parcel
-  pub bare_kept : (from k n : ℕ) → from < p.setup.cores → k ≡ place from s.core → (rest : Option ParcelView) → rest ≡ None
-      → AreBoxes record s { boxes = with_item s.boxes k record { taken = n; parcel = rest } }
-  bare_kept from k n known at_k rest bare =
-      let low : from < s.setup.now.cores = subst (λ (v : PlainBoxesView). from < v.setup.cores) (sym is) known in
-      sets_box s are from s.core k low are.core at_k record { taken = n; parcel = rest } (λ q there. absurd (none-some rest q bare there))
+-- a box without a parcel
+pub bare_kept : {s : Inside} {p : PlainBoxesView} {from k : ℕ} {old : PlainBox} → IsLent s p from k old → k ≡ place from s.core
+    → (n : ℕ) (rest : Option ParcelView) → rest ≡ None
+    → AreBoxes record s { boxes = with_item s.boxes k record { taken = n; parcel = rest } }
+bare_kept {s} {p} {from} {k} lent at_k n rest bare =
+    let low : from < s.setup.now.cores = subst (λ (v : PlainBoxesView). from < v.setup.cores) (sym lent.view_is) lent.known in
+    sets_box s lent.are from s.core k low lent.are.core at_k record { taken = n; parcel = rest }
+    (λ q there. absurd (none-some rest q bare there))
 
-  module _ (to k : ℕ) (known : to < p.setup.cores) (at_k : k ≡ place s.core to) (old : PlainBox)
-      (read : old ≡ slice_index_or s.boxes.items k old) where
-    low-to : to < s.setup.now.cores
-    low-to = subst (λ (v : PlainBoxesView). to < v.setup.cores) (sym is) known
+module _ {s : Inside} {p : PlainBoxesView} {to k : ℕ} {old : PlainBox} (lent : IsLent s p to k old) (at_k : k ≡ place s.core to) where
+  low-to : to < s.setup.now.cores
+  low-to = subst (λ (v : PlainBoxesView). to < v.setup.cores) (sym lent.view_is) lent.known
 
-    within-to : k < length s.boxes.items
-    within-to = within_boxes s are s.core to k are.core low-to at_k
+  within-to : k < length s.boxes.items
+  within-to = within_boxes s lent.are s.core to k lent.are.core low-to at_k
 
-    -- a box that is as it was
-    pub full_kept : AreBoxes record s { boxes = with_item s.boxes k old }
-    full_kept = sets_box s are s.core to k are.core low-to at_k old holds
-      where
-        there : slice_index_or s.boxes.items (place s.core to) bare_box ≡ old
-        there =
-            ap (λ (n : ℕ). slice_index_or s.boxes.items n bare_box) (sym at_k) ∙ get_or_default s.boxes.items k bare_box old within-to ∙ sym read
+  -- a box that is as it was
+  pub full_kept : AreBoxes record s { boxes = with_item s.boxes k old }
+  full_kept = sets_box s lent.are s.core to k lent.are.core low-to at_k old holds
+    where
+      there : slice_index_or s.boxes.items (place s.core to) bare_box ≡ old
+      there =
+          ap (λ (n : ℕ). slice_index_or s.boxes.items n bare_box) (sym at_k) ∙ get_or_default s.boxes.items k bare_box old within-to
+          ∙ sym lent.read
 
-        holds : (q : ParcelView) → old.parcel ≡ Some q → IsParcel s.setup.now s.core to old.taken q
-        holds q full =
-            let inside : to < CORES_MAX = let h = are.cores in omega (arith, h, low-to) in
-            subst (λ (b : PlainBox). IsParcel s.setup.now s.core to b.taken q) there
-            (are.parcels s.core to q inside (ap (λ (b : PlainBox). b.parcel) there ∙ full))
+      holds : (q : ParcelView) → old.parcel ≡ Some q → IsParcel s.setup.now s.core to old.taken q
+      holds q full =
+          let inside : to < CORES_MAX = let h = lent.are.cores in omega (arith, h, low-to) in
+          subst (λ (b : PlainBox). IsParcel s.setup.now s.core to b.taken q) there
+          (lent.are.parcels s.core to q inside (ap (λ (b : PlainBox). b.parcel) there ∙ full))
 
-    -- a box with the parcel that is posted
-    pub post_kept : is_some old.parcel ≡ false → (new : ParcelView) → IsParcel p.setup p.core to (posted_to p to) new
-        → AreBoxes record s { boxes = with_item s.boxes k record { taken = old.taken; parcel = Some new } }
-    post_kept free new parcel = sets_box s are s.core to k are.core low-to at_k record { taken = old.taken; parcel = Some new } holds
-      where
-        none : (o : Option ParcelView) → is_some o ≡ false → parcels_in o ≡ 0
-        none None free = refl
-        none (Some x) free = cc
+  -- a box with the parcel that is posted
+  pub post_kept : is_some old.parcel ≡ false → (new : ParcelView) → IsParcel p.setup p.core to (posted_to p to) new
+      → AreBoxes record s { boxes = with_item s.boxes k record { taken = old.taken; parcel = Some new } }
+  post_kept free new parcel =
+      sets_box s lent.are s.core to k lent.are.core low-to at_k record { taken = old.taken; parcel = Some new } holds
+    where
+      none : (o : Option ParcelView) → is_some o ≡ false → parcels_in o ≡ 0
+      none None free = refl
+      none (Some x) free = cc
 
-        numbered : IsParcel s.setup.now s.core to (posted_to (boxes_view s) to) new
-        numbered = subst (λ (v : PlainBoxesView). IsParcel v.setup v.core to (posted_to v to) new) (sym is) parcel
+      numbered : IsParcel s.setup.now s.core to (posted_to (boxes_view s) to) new
+      numbered = subst (λ (v : PlainBoxesView). IsParcel v.setup v.core to (posted_to v to) new) (sym lent.view_is) parcel
 
-        seen : box_at (boxes_view s) s.core to ≡ seen_box old
-        seen = subst (λ (n : ℕ). at (boxes_view s) n ≡ seen_box old) at_k (seen_at s (boxes_view s) refl k old within-to read)
+      seen : box_at (boxes_view s) s.core to ≡ seen_box old
+      seen = subst (λ (n : ℕ). at (boxes_view s) n ≡ seen_box old) at_k (seen_at s (boxes_view s) refl k old within-to lent.read)
 
-        posted : posted_to (boxes_view s) to ≡ old.taken
-        posted =
-            let e : posted_to (boxes_view s) to ≡ old.taken + parcels_in old.parcel = ap (λ (b : BoxView). b.posted) seen in
-            let n = none old.parcel free in omega (arith, e, n)
+      posted : posted_to (boxes_view s) to ≡ old.taken
+      posted =
+          let e : posted_to (boxes_view s) to ≡ old.taken + parcels_in old.parcel = ap (λ (b : BoxView). b.posted) seen in
+          let n = none old.parcel free in omega (arith, e, n)
 
-        holds : (q : ParcelView) → Some new ≡ Some q → IsParcel s.setup.now s.core to old.taken q
-        holds q same =
-            subst (λ (x : ParcelView). IsParcel s.setup.now s.core to old.taken x) (some-one new q same)
-            (subst (λ (n : ℕ). IsParcel s.setup.now s.core to n new) posted numbered)
+      holds : (q : ParcelView) → Some new ≡ Some q → IsParcel s.setup.now s.core to old.taken q
+      holds q same =
+          subst (λ (x : ParcelView). IsParcel s.setup.now s.core to old.taken x) (some-one new q same)
+          (subst (λ (n : ℕ). IsParcel s.setup.now s.core to n new) posted numbered)

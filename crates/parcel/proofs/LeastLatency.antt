@@ -55,12 +55,13 @@ owner_is owners pipe within x read = read ∙ get_or_default owners pipe x 0 wit
 abbrev pub HasHops : List ℕ → List ℕ → List Bool → ℕ → List Bool → Type 0
 HasHops owners route old hop marks = (q : ℕ) → Has marks q ↔ (Has old q ⊎ Among q (crossed_pipes owners (take hop route)))
 
-pub hop_left : (owners : List ℕ) (route : List ℕ) (old before after : List Bool) (hop : ℕ) → 1 ≤ hop → hop < length route
+-- one hop further, where the packet leaves its core
+pub hop_left : (owners : List ℕ) (route : List ℕ) (old before after : List Bool) {hop : ℕ} → 1 ≤ hop → hop < length route
     → HasHops owners route old hop before
     → slice_index owners (slice_index route (hop - 1)) ≢ slice_index owners (slice_index route hop)
     → ((q : ℕ) → Has after q ↔ (Has before q ⊎ (slice_index route (hop - 1) ≡ q)))
     → HasHops owners route old (hop + 1) after
-hop_left owners route old before after hop low within has differ adds = λ q. (forth q, back q)
+hop_left owners route old before after {hop} low within has differ adds = λ q. (forth q, back q)
   where
     is : crossed_pipes owners (take (hop + 1) route) ≡ crossed_pipes owners (take hop route) ++ slice_index route (hop - 1) ∷ []
     is = crossed-grows owners route hop low within false (false_from_ne_true _ (λ e. differ (eqb-true _ _ e)))
@@ -98,6 +99,14 @@ hop_stays owners route old marks hop low within has same =
   where
     is : crossed_pipes owners (take (hop + 1) route) ≡ crossed_pipes owners (take hop route)
     is = crossed-grows owners route hop low within true (eq-eqb _ _ same) ∙ append-nil (crossed_pipes owners (take hop route))
+
+-- ---- what is read at an index of a list
+
+-- `x` was read at `k` from a list that is `own`
+pub record IsReadAt {X : Type 0} (own xs : List X) (k : ℕ) (x : X) : Type 0 where
+  pub same : xs ≡ own
+  pub within : k < length xs
+  pub read : x ≡ slice_index_or xs k x
 
 -- ---- other owners
 
@@ -163,19 +172,19 @@ pub record IsSoFar (S : SetupView) (plans : List PacketPlan) (index : ℕ) (mark
       → Among q (crossed_pipes S.owners (route_of S (slice_index_or plans k p).number)) → Has marks q
   pub before : HasRoutesBefore S marks walked
 
-pub packet_added : (S : SetupView) → IsSetup S → (plans : List PacketPlan) → plans ≡ S.packets → (index : ℕ) → index < length plans
-    → (plan : PacketPlan) → plan ≡ slice_index_or plans index plan
-    → (old new : List Bool) (walked end : ℕ) → IsSoFar S plans index old walked → AddsRoute S old new plan.route end
-    → IsSoFar S plans (index + 1) new end
-packet_added S is plans same index within plan read old new walked end so_far adds = record {
+-- with the pipes of its route the set has those of one packet more
+pub packet_added : {S : SetupView} → IsSetup S → {plans : List PacketPlan} {index : ℕ} {plan : PacketPlan}
+    → IsReadAt S.packets plans index plan → {old new : List Bool} {walked end : ℕ} → IsSoFar S plans index old walked
+    → AddsRoute S old new plan.route end → IsSoFar S plans (index + 1) new end
+packet_added {S} is {plans} {index} {plan} at {old} {new} {walked} {end} so_far adds = record {
   sound = λ q there. sound q (adds.sound q there);
   complete = λ k q p low a. complete k q p a (cases_lt k index) low;
   before = adds.before;
 }
   where
     member : Among plan S.packets
-    member = subst (λ (l : List PacketPlan). Among plan l) same
-        (subst (λ (p : PacketPlan). Among p plans) (sym read) (Among-index plans index plan within))
+    member = subst (λ (l : List PacketPlan). Among plan l) at.same
+        (subst (λ (p : PacketPlan). Among p plans) (sym at.read) (Among-index plans index plan at.within))
 
     way : slice_index_or S.routes plan.route [] ≡ route_of S plan.number
     way = (packet-route S is plan (packet-known S is plan member)).is
@@ -190,7 +199,7 @@ packet_added S is plans same index within plan read old new walked end so_far ad
     complete k q p a (inr h) low =
         let e : k ≡ index = omega arith in
         let here : slice_index_or plans k p ≡ plan =
-        ap (λ (n : ℕ). slice_index_or plans n p) e ∙ get_or_default plans index p plan within ∙ sym read in
+        ap (λ (n : ℕ). slice_index_or plans n p) e ∙ get_or_default plans index p plan at.within ∙ sym at.read in
         let b : Among q (crossed_pipes S.owners (route_of S plan.number)) =
         subst (λ (z : PacketPlan). Among q (crossed_pipes S.owners (route_of S z.number))) here a in
         adds.added q (subst (λ (l : List ℕ). Among q (crossed_pipes S.owners l)) (sym way) b)
@@ -253,38 +262,38 @@ first-read [] q p d within read = absurd (omega arith)
 first-read (x ∷ xs) zero p d within read = sym read
 first-read (x ∷ xs) (suc q) p d within read = first-read xs q p d (omega arith) read
 
-module _ (S : SetupView) (marks : List Bool) (pipes : List PipeParams) (same : pipes ≡ S.pipes) (k : ℕ) (within : k < length pipes)
-    (p : PipeParams) (read : p ≡ slice_index_or pipes k p) (least : ℕ) where
+module _ (S : SetupView) (marks : List Bool) {pipes : List PipeParams} {k : ℕ} {p : PipeParams} (at : IsReadAt S.pipes pipes k p) where
   first-is : first_params S k ≡ p
-  first-is = ap (λ (l : List PipeParams). unwrap_or (slice_get l k) no_params) (sym same) ∙ first-read pipes k p no_params within read
+  first-is =
+      ap (λ (l : List PipeParams). unwrap_or (slice_get l k) no_params) (sym at.same) ∙ first-read pipes k p no_params at.within at.read
 
-  pub first_more : IsLeastOf LOOKAHEAD_MAX (IsFirstLatency S marks) k least → Has marks k
+  pub first_more : {least : ℕ} → IsLeastOf LOOKAHEAD_MAX (IsFirstLatency S marks) k least → Has marks k
       → IsLeastOf LOOKAHEAD_MAX (IsFirstLatency S marks) (k + 1) (min least p.latency_ticks)
-  first_more so_far has =
+  first_more {least} so_far has =
       let here : (first_params S k).latency_ticks ≡ p.latency_ticks = ap (λ (z : PipeParams). z.latency_ticks) first-is in
       least_more LOOKAHEAD_MAX (IsFirstLatency S marks) k least p.latency_ticks so_far (has, here) (λ x there. sym there.1 ∙ here)
 
-  pub first_same : IsLeastOf LOOKAHEAD_MAX (IsFirstLatency S marks) k least → slice_index_or marks k false ≡ false
+  pub first_same : {least : ℕ} → IsLeastOf LOOKAHEAD_MAX (IsFirstLatency S marks) k least → slice_index_or marks k false ≡ false
       → IsLeastOf LOOKAHEAD_MAX (IsFirstLatency S marks) (k + 1) least
-  first_same so_far hasnt =
+  first_same {least} so_far hasnt =
       least_same LOOKAHEAD_MAX (IsFirstLatency S marks) k least so_far (λ x there. true≢false (sym there.0 ∙ hasnt))
 
-module _ (S : SetupView) (marks : List Bool) (changes : List PipeChange) (same : changes ≡ S.changes) (k : ℕ) (within : k < length changes)
-    (c : PipeChange) (read : c ≡ slice_index_or changes k c) (old least : ℕ) where
+module _ (S : SetupView) (marks : List Bool) {changes : List PipeChange} {k : ℕ} {c : PipeChange}
+    (at : IsReadAt S.changes changes k c) where
   change-is : (d : PipeChange) → slice_index_or S.changes k d ≡ d → d ≡ c
   change-is d is =
-      sym is ∙ ap (λ (l : List PipeChange). slice_index_or l k d) (sym same) ∙ get_or_default changes k d c within ∙ sym read
+      sym is ∙ ap (λ (l : List PipeChange). slice_index_or l k d) (sym at.same) ∙ get_or_default changes k d c at.within ∙ sym at.read
 
-  pub changed_more : IsLeastOf old (IsChangedLatency S marks) k least → Has marks c.pipe
+  pub changed_more : {old least : ℕ} → IsLeastOf old (IsChangedLatency S marks) k least → Has marks c.pipe
       → IsLeastOf old (IsChangedLatency S marks) (k + 1) (min least c.params.latency_ticks)
-  changed_more so_far has =
-      let at : slice_index_or S.changes k c ≡ c = ap (λ (l : List PipeChange). slice_index_or l k c) (sym same) ∙ sym read in
-      least_more old (IsChangedLatency S marks) k least c.params.latency_ticks so_far (c, at, has, refl)
+  changed_more {old} {least} so_far has =
+      let here : slice_index_or S.changes k c ≡ c = ap (λ (l : List PipeChange). slice_index_or l k c) (sym at.same) ∙ sym at.read in
+      least_more old (IsChangedLatency S marks) k least c.params.latency_ticks so_far (c, here, has, refl)
       (λ x there. sym there.3 ∙ ap (λ (d : PipeChange). d.params.latency_ticks) (change-is there.0 there.1))
 
-  pub changed_same : IsLeastOf old (IsChangedLatency S marks) k least → slice_index_or marks c.pipe false ≡ false
+  pub changed_same : {old least : ℕ} → IsLeastOf old (IsChangedLatency S marks) k least → slice_index_or marks c.pipe false ≡ false
       → IsLeastOf old (IsChangedLatency S marks) (k + 1) least
-  changed_same so_far hasnt =
+  changed_same {old} {least} so_far hasnt =
       least_same old (IsChangedLatency S marks) k least so_far
       (λ x there. true≢false (sym there.2 ∙ ap (λ (d : PipeChange). slice_index_or marks d.pipe false) (change-is there.0 there.1) ∙ hasnt))
 

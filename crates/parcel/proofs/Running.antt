@@ -81,10 +81,10 @@ module _ (S : SetupView) (is : IsSetup S) where
       )
 
   -- what comes before a visit has come, where it was told by then, and back
-  told-come : (core windows window : ℕ) (taken : ℕ → ℕ) (front rest : List Visit) → IsCut S core windows front rest
+  told-come : (core windows window : ℕ) (taken : ℕ → ℕ) {front rest : List Visit} → IsCut S core windows front rest
       → ((other : ℕ) → other ≢ core → taken other ≡ window + 1)
       → (v : Visit) → Among v (journal_of S) → WasTold S core windows taken v → HasComeBy S core window front (predecessor S v)
-  told-come core windows window taken front rest cut all v a told = go (comes S is v a)
+  told-come core windows window taken {front} {rest} cut all v a told = go (comes S is v a)
     where
       go : Comes S v → HasComeBy S core window front (predecessor S v)
       go (inl e) = subst (HasComeBy S core window front) (sym (predecessor-first S is v e)) tt
@@ -113,10 +113,10 @@ module _ (S : SetupView) (is : IsSetup S) where
               let t : taken (origin_of S v).core ≡ window + 1 = all (origin_of S v).core m.0 in
               inr ((λ same. m.0 (owner ∙ same)), omega (arith, l, t, number))
 
-  come-told : (core windows window : ℕ) (taken : ℕ → ℕ) (front rest : List Visit) → IsCut S core windows front rest
+  come-told : (core windows window : ℕ) (taken : ℕ → ℕ) {front rest : List Visit} → IsCut S core windows front rest
       → ((other : ℕ) → other ≢ core → taken other ≡ window + 1)
       → (v : Visit) → Among v (journal_of S) → HasComeBy S core window front (predecessor S v) → WasTold S core windows taken v
-  come-told core windows window taken front rest cut all v a come = go (comes S is v a)
+  come-told core windows window taken {front} {rest} cut all v a come = go (comes S is v a)
     where
       go : Comes S v → WasTold S core windows taken v
       go (inl e) = split (cases_eq (origin_of S v).core core)
@@ -163,14 +163,14 @@ module _ (S : SetupView) (is : IsSetup S) where
             among = a;
             owner = d.owner;
             window = cut.late v d.among d.owner;
-            told = come-told core windows window taken front rest cut all v a d.come;
+            told = come-told core windows window taken cut all v a d.come;
           }
 
       back : IsDueAt S core windows taken v → IsDueAfter S core window front rest v
       back d = record {
         among = here (Among-append v front rest (subst (Among v) (sym cut.split) d.among));
         owner = d.owner;
-        come = told-come core windows window taken front rest cut all v d.among d.told;
+        come = told-come core windows window taken cut all v d.among d.told;
       }
         where
           here : Among v front ⊎ Among v rest → Among v rest

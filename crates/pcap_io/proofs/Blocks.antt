@@ -65,9 +65,9 @@ flat_map-at {X = X} f xs i x lt is =
     ∙ ap (λ (bytes : List ℕ). flat_map f (take i xs) ++ bytes) (flat_map-cons f x (drop (i + 1) xs))
 
 -- a text but for what stands in the block, and then the block
-pub AddsBuffered-flushed : (p q r : Part) (text block : List ℕ) (result : Result (Unit {0}) WriteFault)
+pub AddsBuffered-flushed : {p q : Part} (r : Part) {text block : List ℕ} (result : Result (Unit {0}) WriteFault)
     → Buffers text p q block → AddsWhole block q r result → AddsWhole text p r result
-AddsBuffered-flushed p q r text block result first second =
+AddsBuffered-flushed {p} {q} r {text} {block} result first second =
     subst (λ (bytes : List ℕ). AddsWhole bytes p r result) (sym first.split)
     (AddsWhole-then p q r first.front block result first.added second)
 

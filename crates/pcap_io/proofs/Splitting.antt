@@ -74,14 +74,15 @@ IsPacket-record_packet form text opens early = record {
 }
 
 -- the packet that is made from the header of a record and what follows it
-pub record_packet-parts : (form : Form) (text body front bytes : List ℕ) (header : RecordHeader) → header ≡ record_header_of form text
-    → body ≡ drop 16 text → front ≡ take header.captured body → bytes ≡ front
+pub record_packet-parts : (form : Form) (text : List ℕ) {body front bytes : List ℕ} {header : RecordHeader}
+    → header ≡ record_header_of form text → body ≡ drop 16 text → front ≡ take header.captured body → bytes ≡ front
     → record { time_ns = header.time_ns; original = header.original; bytes = bytes } ≡ record_packet form text
-record_packet-parts form text body front bytes header header_is body_is front_is bytes_are = cc
+record_packet-parts form text header_is body_is front_is bytes_are = cc
 
-pub after_record-parts : (form : Form) (text body after : List ℕ) (header : RecordHeader) → header ≡ record_header_of form text
+-- what is left is what follows its bytes
+pub after_record-parts : (form : Form) (text : List ℕ) {body after : List ℕ} {header : RecordHeader} → header ≡ record_header_of form text
     → body ≡ drop 16 text → after ≡ drop header.captured body → after ≡ after_record form text
-after_record-parts form text body after header header_is body_is after_is =
+after_record-parts form text {body = body} {header = header} header_is body_is after_is =
     let joined = drop-drop (captured form text) 16 text in
     let there : drop header.captured body ≡ drop (captured form text) (drop 16 text) = cc in
     after_is ∙ there ∙ joined

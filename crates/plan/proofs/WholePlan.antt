@@ -21,15 +21,15 @@ use Rattle.plan.specs.PlannedView.{PlannedView}
 use Rattle.plan.proofs.AllAnswers.{bound_by, bytes_by, causes_by}
 
 module _ (t : TopologyView) (d : DistilledView) (directory : DirectoryView) (said : List Change) (trace : Capture) (options : Options)
-    (uses : List Binding) (answers : List (Result PacketPlan Unbound))
+    {uses : List Binding} {answers : List (Result PacketPlan Unbound)}
     (are : AreAnswered (grounds_of t d directory trace options.tick_ns) trace.packets uses answers) where
   abbrev by : Grounds
   by = grounds_of t d directory trace options.tick_ns
 
-  pub setup_is_of : (routes : List (List ℕ)) (packets : List PacketPlan) (S : SetupView)
+  pub setup_is_of : {routes : List (List ℕ)} {packets : List PacketPlan} {S : SetupView}
       → IsSetupWith options d directory said trace routes packets S → routes ≡ map (λ b. b.route) uses → packets ≡ filter_map result_ok answers
       → IsSetupOf options d directory said trace are.bindings S
-  setup_is_of routes packets S is routes_is packets_is = record {
+  setup_is_of {S = S} is routes_is packets_is = record {
     tick_ns = is.tick_ns;
     seed = is.seed;
     base_ns = is.base_ns;
@@ -58,7 +58,7 @@ module _ (t : TopologyView) (d : DistilledView) (directory : DirectoryView) (sai
   plan_is_over planned setup bytes unbounds = record {
     bindings = are.bindings;
     bound = are.bound;
-    setup = setup_is_of (map (λ (b : Binding). b.route) uses) (filter_map result_ok answers) planned.setup setup refl refl;
+    setup = setup_is_of setup refl refl;
     bytes =
         bytes
         ∙ ap (λ (xs : List (Result PacketPlan Unbound)). filter_map (λ p. bytes_if_answered p.0 p.1) (zip trace.packets xs)) are.answers_are
@@ -73,11 +73,12 @@ pub map_twice : {X Y Z : Type 0} (f : X → Y) (g : Y → Z) (xs : List X) → m
 map_twice f g [] = refl
 map_twice {X} {Y} {Z} f g (x ∷ xs) = ap (λ (rest : List Z). g (f x) ∷ rest) (map_twice f g xs)
 
-pub with_same : (options : Options) (d : DistilledView) (directory : DirectoryView) (said : List Change) (trace : Capture)
-    (routes routes' : List (List ℕ)) (packets packets' : List PacketPlan) (S S' : SetupView)
+-- other names for the same routes, packets and setup
+pub with_same : {options : Options} {d : DistilledView} {directory : DirectoryView} {said : List Change} {trace : Capture}
+    {routes routes' : List (List ℕ)} {packets packets' : List PacketPlan} {S S' : SetupView}
     → IsSetupWith options d directory said trace routes packets S → routes ≡ routes' → packets ≡ packets' → S' ≡ S
     → IsSetupWith options d directory said trace routes' packets' S'
-with_same options d directory said trace routes routes' packets packets' S S' is same_routes same_packets same =
+with_same {options} {d} {directory} {said} {trace} {routes} {routes'} {packets} {packets'} {S} {S'} is same_routes same_packets same =
     subst (IsSetupWith options d directory said trace routes' packets') (sym same)
     (subst (λ (ps : List PacketPlan). IsSetupWith options d directory said trace routes' ps S) same_packets
     (subst (λ (rs : List (List ℕ)). IsSetupWith options d directory said trace rs packets S) same_routes is))

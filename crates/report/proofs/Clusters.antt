@@ -21,12 +21,13 @@ first-windows S setup cores counts d =
     (get_or-map-range_with_len (counts_at S) 0 S.cores 0 0 d (omega (arith, setup.cores_least)) (omega arith))
 
 -- the text from its three parts
-pub cluster-written : (S : SetupView) (cores : List CoreCounts) (head first lines : List ℕ) (count lookahead windows : ℕ)
+pub cluster-written : (S : SetupView) (cores : List CoreCounts) {head first lines : List ℕ} {count lookahead windows : ℕ}
     → cores ≡ map (counts_at S) (range_with_len 0 S.cores) → count ≡ S.cores → lookahead ≡ lookahead_of S → windows ≡ window_count S
     → head ≡ line (codes "modelnet cluster 1") → first ≡ head ++ cores_line count lookahead windows
     → lines ≡ first ++ numbered_lines core_line 0 cores → lines ≡ cluster_text S
 unfolding cluster_text
-cluster-written S cores head first lines count lookahead windows counts count_is lookahead_is windows_is head_is first_is lines_is =
+cluster-written S cores {count = count} {lookahead = lookahead} {windows = windows} counts count_is lookahead_is windows_is head_is first_is
+    lines_is =
     let named : cores_line count lookahead windows ≡ cores_line S.cores (lookahead_of S) (window_count S) =
     ap (λ c. cores_line c lookahead windows) count_is ∙ ap (λ l. cores_line S.cores l windows) lookahead_is
     ∙ ap (λ w. cores_line S.cores (lookahead_of S) w) windows_is in

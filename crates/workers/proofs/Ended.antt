@@ -96,10 +96,10 @@ all-ended S stores all places start are here done = record {
       ended-at S stores core g.0 place (start.each core g.0 g.1) g.2 (All-at IsHere places core place here e) (All-at IsDoneHere places core place done e));
 }
 
-pub all-results : (S : SetupView) (stores : List StoreView) (all : List Station) (places : List Place) (rans : List Ran)
+pub all-results : {S : SetupView} {stores : List StoreView} {all : List Station} (places : List Place) (rans : List Ran)
     → AreAtStart S stores S.cores all → AllZip IsPlaceOf all places → All IsDoneHere places → AllZip IsRanAt places rans
     → (bytes : List (List ℕ)) → AreBytesIn S stores bytes → AreResults S bytes (results_of rans)
-all-results S stores all places rans start are done have bytes bytes_are = record {
+all-results {S} {stores} {all} places rans start are done have bytes bytes_are = record {
   one_a_core = length-map rans (λ (r : Ran). r.result) ∙ AllZip-long IsRanAt places rans have ∙ AllZip-long IsPlaceOf all places are ∙ start.count;
   each = λ core result e. (let r = map-at (λ (r : Ran). r.result) rans core result e in
       let p = zip-at IsRanAt places rans core r.0 have r.1 in

@@ -26,12 +26,13 @@ pub record IsFinishing (w : WorldView) (before : TallyView) (many : ℕ) (result
 pub finishing-starts : (w : WorldView) (before : TallyView) → IsFinishing w before 0 [] before
 finishing-starts w before = record { count = refl; each = λ bytes s core r e. cc; tally = inl (refl, refl) }
 
-pub finishing-more : (w : WorldView) (before : TallyView) (many : ℕ) (results : List CoreResultView) (now next : TallyView) (c : CoreView)
+-- one core more has finished
+pub finishing-more : {w : WorldView} {before : TallyView} {many : ℕ} {results : List CoreResultView} {now next : TallyView} (c : CoreView)
     (r : CoreResultView) → IsFinishing w before many results now → IsWorld w → IsCoreOf w many c
     → ((bytes : List (List ℕ)) → CoreStands bytes c → IsResult c.setup bytes c.number r)
     → next ≡ added now 1 (window_count c.setup) (own_visit_count c.setup c.number)
     → IsFinishing w before (many + 1) (results ++ r ∷ []) next
-finishing-more w before many results now next c r f is here result counted = record {
+finishing-more {w} {before} {many} {results} {now} {next} c r f is here result counted = record {
   count = length-append results (r ∷ []) ∙ ap (λ (n : ℕ). n + 1) f.count;
   each = λ bytes s core q e. ⊎_elim (λ o. f.each bytes s core q o) (λ p. new bytes s core q p.0 p.1) (get-push results r q core e);
   tally = inr (counted-more w.setup before many now next f.tally

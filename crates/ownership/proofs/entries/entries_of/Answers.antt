@@ -9,9 +9,8 @@ pipes-preserved c =
     record {
       most = omega arith;
       entries =
-          entry_written c.args.distilled.now c.args.owners.now c.pipes.entries.items c.pipes-pipes.result.now c.pipes.pipe
-          c.index-pipes-pipe.result c.pipes-pipes.ensures.lent c.pipes-pipes.ensures.valid c.pipes-test.true c.pipes.invariant.most
-          c.pipes.invariant.entries;
+          entry_written c.pipes-pipes.result.now c.pipes.pipe c.index-pipes-pipe.result c.pipes-pipes.ensures.lent c.pipes-pipes.ensures.valid
+          c.pipes-test.true c.pipes.invariant.most c.pipes.invariant.entries;
       below =
           All-set (λ core. core < c.args.cores) c.pipes.entries.items _ _
           (c.requires.owners _ _ (omega (arith, len, c.requires.len, c.pipes.invariant.most, c.pipes-test.true))) c.pipes.invariant.below;

@@ -8,7 +8,7 @@ loop-hop-preserved c =
     elim c.if-owners-pipe.branch [
       | then-owners-pipe w ↦
           subst (HasHops c.args.owners.now c.args.route.now c.args.crossed.now (c.loop-hop.hop + 1)) (sym w.crossed-is)
-          (hop_left c.args.owners.now c.args.route.now c.args.crossed.now c.loop-hop.crossed _ c.loop-hop.hop c.loop-hop.auto.hop
+          (hop_left c.args.owners.now c.args.route.now c.args.crossed.now c.loop-hop.crossed _ c.loop-hop.auto.hop
           c.loop-hop-test.true c.loop-hop.invariant w.if-owners-pipe.true w.add.ensures)
       | else-owners-pipe w ↦
           subst (HasHops c.args.owners.now c.args.route.now c.args.crossed.now (c.loop-hop.hop + 1)) (sym w.crossed-is)

@@ -9,10 +9,11 @@ use Rattle.parcel.proofs.crossed.crossed_of.Goals as goal
 pub loop-packet-preserved : goal.loop-packet-preserved
 loop-packet-preserved c =
     let plans : List PacketPlan = c.deref-packet-items.result.now in
-    let same = c.deref-packet-items.ensures.value ∙ ap (λ (v : SetupView). v.packets) c.parts.view_is in
-    packet_added (owned_by c.args.parts.now c.args.owners.now) c.requires plans same c.loop-packet.packet-index c.loop-packet-test.true _
-    (get_or_default plans c.loop-packet.packet-index _ _ c.loop-packet-test.true)
-    c.loop-packet.crossed c.walk-walked.new.crossed c.loop-packet.walked c.walk-walked.result c.loop-packet.invariant c.walk-walked.ensures
+    packet_added c.requires (record {
+      same = c.deref-packet-items.ensures.value ∙ ap (λ (v : SetupView). v.packets) c.parts.view_is;
+      within = c.loop-packet-test.true;
+      read = get_or_default plans c.loop-packet.packet-index _ _ c.loop-packet-test.true;
+    }) c.loop-packet.invariant c.walk-walked.ensures
 
 pub returns : goal.returns
 returns c =

@@ -12,16 +12,14 @@ pub records-preserved : goal.records-preserved
 records-preserved c =
     let form = c.args.form in
     let rest = c.records.rest.now in
-    let body = c.split_at.result.1.now in
     let opens = c.in-Ok.ensures.0 in
     let packet : Packet = record { time_ns = c.in-Ok.header.time_ns; original = c.in-Ok.header.original; bytes = c.in_ok-bytes.bytes } in
-    let header = c.in-Ok.header in
     let header_is = c.in-Ok.ensures.1 in
     let cut = c.split_at-in-records.ensures in
     let packet_is : packet ≡ record_packet form rest =
-    record_packet-parts form rest body _ _ header header_is c.split_at.ensures.back cut.front c.in_ok-bytes.ensures.copied in
+    record_packet-parts form rest header_is c.split_at.ensures.back cut.front c.in_ok-bytes.ensures.copied in
     let after_is : c.split_at-in-records.result.1.now ≡ after_record form rest =
-    after_record-parts form rest body _ header header_is c.split_at.ensures.back cut.back in
+    after_record-parts form rest header_is c.split_at.ensures.back cut.back in
     let items_are : c.push.new.self.items ≡ c.records.packets.items ++ packet ∷ [] = c.in_ok-push.ensures.items in
     let early : IsRecordTime (time_ns form rest) = omega (arith, c.in-Ok.ensures.2, ap (λ (h : RecordHeader). h.time_ns) header_is) in
     let so_far = c.records.invariant in

@@ -18,4 +18,4 @@ pub returns-clause-own : goal.returns-clause-own
 returns-clause-own g c =
     let text_is : pcap_text c.args.trace.now ≡ (c.new-block.result ++ c.header.result) ++ flat_map record_text c.packets.result.now = cc in
     let buffered = AddsBuffered-parts _ _ c.write_records.new.block (Ok tt) text_is c.in_ok-put.ensures.own c.in_ok-write_records.ensures.own in
-    AddsBuffered-flushed _ _ _ _ c.write_records.new.block c.flush.result buffered c.flush.ensures.own
+    AddsBuffered-flushed _ c.flush.result buffered c.flush.ensures.own

@@ -16,7 +16,7 @@ returns c =
     let second : c.deref-2.result.now ≡ c.in_ok-uses.field-0.packets.items = cc (c.deref-2.ensures.value, c.in_ok-uses.packets-is) in
     let third : c.deref-3.result.now ≡ c.in_ok-uses.field-0.packets.items = cc (c.deref-3.ensures.value, c.in_ok-uses.packets-is) in
     plan_is_over c.args.topology.now c.args.distilled.now c.args.directed.now.directory c.args.directed.now.changes.items c.args.trace
-    c.args.options.now (bindings_of c.in_ok-uses.field-0.uses.items) c.in_ok-uses.field-0.packets.items c.in_ok-uses.ensures.answered
+    c.args.options.now c.in_ok-uses.ensures.answered
     (record { setup = c.in_ok-setup.setup; bytes = c.in_ok-bytes.bytes.items; unbounds = c.in_ok-unbounds.unbounds.items })
     (subst
     (λ (xs : List (Result PacketPlan Unbound)). IsSetupWith c.args.options.now c.args.distilled.now c.args.directed.now.directory

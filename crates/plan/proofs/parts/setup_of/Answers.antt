@@ -1,7 +1,7 @@
 use Rattle.std.proofs.Common.{sym, ◌∙◌}
 use Rattle.plan.specs.declared.uses.Use.{Use}
 use Rattle.plan.specs.Binding.{Binding}
-use Rattle.plan.specs.Router.{binding_of, bindings_of}
+use Rattle.plan.specs.Router.{binding_of}
 use Rattle.plan.proofs.Latencies.{distilled_usual}
 use Rattle.plan.proofs.PlanSetup.{plan_is_setup}
 use Rattle.plan.proofs.WholePlan.{setup_is_of, map_twice, with_same}
@@ -10,7 +10,7 @@ use Rattle.plan.proofs.parts.setup_of.Goals as goal
 pub new-requires : goal.new-requires
 new-requires c =
     let of = setup_is_of c.args.topology.now c.args.distilled.now c.args.directed.now.directory c.args.directed.now.changes.items c.args.trace.now
-    c.args.options.now (bindings_of c.args.uses.items) c.args.answers.now c.requires.answered _ _ c.in_ok-parts.parts c.in_ok-parts.ensures.parts
+    c.args.options.now c.requires.answered c.in_ok-parts.ensures.parts
     (rw c.in_ok-routes.ensures (map_twice (λ (u : Use). u.route) (λ route. route.items) c.args.uses.items
     ∙ sym (map_twice binding_of (λ (b : Binding). b.route) c.args.uses.items)))
     c.in_ok-packets.ensures in
@@ -52,8 +52,7 @@ new-requires c =
 
 pub returns : goal.returns
 returns c =
-    with_same c.args.options.now c.args.distilled.now c.args.directed.now.directory c.args.directed.now.changes.items c.args.trace.now
-    _ _ _ _ c.in_ok-parts.parts c.new.result c.in_ok-parts.ensures.parts
+    with_same c.in_ok-parts.ensures.parts
     (rw c.in_ok-routes.ensures (map_twice (λ (u : Use). u.route) (λ route. route.items) c.args.uses.items
     ∙ sym (map_twice binding_of (λ (b : Binding). b.route) c.args.uses.items)))
     c.in_ok-packets.ensures c.new.ensures

@@ -17,7 +17,7 @@ returns c = record {
       ∙ ap (λ (o : OutcomeView). (get_or o.cores 0 c.index.result.now).windows) c.outcome.view_is
       ∙ first-windows c.args.setup.now c.parts.ensures.kept c.args.outcome.now.cores c.requires c.index.result.now in
       c.from_vec.ensures.same ∙ ap (λ (v : Vec ℕ Global). v.items) c.into_bytes.ensures.value
-      ∙ cluster-written c.args.setup.now c.args.outcome.now.cores _ _ _ _ _ _ c.requires
+      ∙ cluster-written c.args.setup.now c.args.outcome.now.cores c.requires
       (ap (λ (S : SetupView). S.cores) (c.behind-setup.view_is ∙ c.parts.ensures.same))
       c.lookahead.ensures
       windows

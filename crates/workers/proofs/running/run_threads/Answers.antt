@@ -16,8 +16,8 @@ finish_all-requires-clause-room g c =
 
 pub returns-clause-results : goal.returns-clause-results
 returns-clause-results g c = λ bytes are.
-    all-results c.args.setup.now c.args.stores.items c.in_ok-all.all.items c.in_ok-places.places.items c.finish_all.result.items
-    c.in_ok-all.ensures c.in_ok-places.ensures.places c.in_ok-places.ensures.done c.finish_all.ensures.ran bytes are
+    all-results c.in_ok-places.places.items c.finish_all.result.items c.in_ok-all.ensures c.in_ok-places.ensures.places
+    c.in_ok-places.ensures.done c.finish_all.ensures.ran bytes are
 
 pub returns-clause-count : goal.returns-clause-count
 returns-clause-count g c =

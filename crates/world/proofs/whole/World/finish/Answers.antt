@@ -48,8 +48,8 @@ loop-core-preserved c =
       finishing = subst (λ (k : ℕ). IsFinishing W c.args.tally.now k c.push_reserved.new.self.items c.finish.new.tally)
           (sym (length_push c.loop-core.yielded c.in-Some.core))
           (subst (λ (rs : List CoreResultView). IsFinishing W c.args.tally.now (n + 1) rs c.finish.new.tally) (sym c.push_reserved.ensures.items)
-          (finishing-more W c.args.tally.now n c.loop-core.results.items c.loop-core.tally c.finish.new.tally c.in-Some.core c.finish.result
-          c.loop-core.invariant.finishing is here c.finish.ensures.result c.finish.ensures.tally));
+          (finishing-more c.in-Some.core c.finish.result c.loop-core.invariant.finishing is here c.finish.ensures.result
+          c.finish.ensures.tally));
       room = omega (arith, c.loop-core.invariant.room, c.push_reserved.ensures.capacity);
     }
 
