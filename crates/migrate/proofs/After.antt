@@ -36,8 +36,9 @@ use Rattle.migrate.proofs.NextVisit.{next-grows}
 use Rattle.migrate.proofs.OneVisit.{IsChanged, changed-at, head-pending, head-owner, head-named, head-first, IsFollowed, followed-due, put-followed, settle-followed, followed-pipes}
 
 -- where the same packets are decided, the same are settled
-pub settled-alike : (S : SetupView) (bytes : List (List ℕ)) (core : ℕ) (D E : PacketPlan → Type 0) (settled : List Settled) (store : StoreView)
-    → ((p : PacketPlan) → Enters S core p → D p ↔ E p) → AreSettled S bytes core D settled store → AreSettled S bytes core E settled store
+pub settled-alike : (S : SetupView) (bytes : List (List ℕ)) (core : ℕ) (D E : PacketPlan → Type 0) (settled : List Settled)
+    (store : StoreView) → ((p : PacketPlan) → Enters S core p → D p ↔ E p) → AreSettled S bytes core D settled store
+    → AreSettled S bytes core E settled store
 settled-alike S bytes core D E settled store same a = record {
   each_has_bytes = a.each_has_bytes;
   sound = a.sound;
@@ -58,21 +59,20 @@ undecided-fresh S is bytes core D settled store a p planned not m =
     let d = a.decided t.0 t.1 in
     not (subst D (one_packet S is d.0 p d.1.among planned (d.3 ∙ t.2)) d.2)
 
-module _ (S : SetupView) (is : IsSetup S) (bytes : List (List ℕ)) (J : List Visit) (owners : List ℕ) (counts : List PipeCounts)
-    (shelves : List ShelfView) (a : IsAfter S bytes J owners counts shelves) (head : Head) (f : IsHeadOf shelves head)
-    (mid : List ShelfView) (m : ChangesAt head.core (VisitsAt S head.due (pipe_of S head.due)) shelves mid) where
+module _ {S : SetupView} (is : IsSetup S) {bytes : List (List ℕ)} {J : List Visit} {owners : List ℕ} {counts : List PipeCounts}
+    {shelves : List ShelfView} (a : IsAfter S bytes J owners counts shelves) {head : Head} (f : IsHeadOf shelves head)
+    {mid : List ShelfView} (m : ChangesAt head.core (VisitsAt S head.due (pipe_of S head.due)) shelves mid) where
   abbrev v : Visit
   v = visit_of S J head.due
 
   grown : IsGrowing S (J ++ v ∷ [])
-  grown =
-      next-grows S is J a.growing head.due (head-pending S is bytes J owners counts shelves a head f)
-      (head-first S is bytes J owners counts shelves a head f)
+  grown = next-grows S is J a.growing head.due (head-pending is a f) (head-first is a f)
 
   -- what entered at a core stays at its visit
   mid-entrants : (core : ℕ) (t : ShelfView) → slice_get mid core ≡ Some t
       → (s : ShelfView) × (slice_get shelves core ≡ Some s) × (t.settled ≡ s.settled) × (t.store ≡ s.store)
-  mid-entrants core t e = go (changed-at head.core (VisitsAt S head.due (pipe_of S head.due)) shelves mid m core t e) (cases_eq core head.core)
+  mid-entrants core t e =
+      go (changed-at head.core (VisitsAt S head.due (pipe_of S head.due)) shelves mid m core t e) (cases_eq core head.core)
     where
       go : IsChanged head.core (VisitsAt S head.due (pipe_of S head.due)) shelves core t → (core ≡ head.core) ⊎ (core ≢ head.core)
           → (s : ShelfView) × (slice_get shelves core ≡ Some s) × (t.settled ≡ s.settled) × (t.store ≡ s.store)
@@ -100,20 +100,22 @@ module _ (S : SetupView) (is : IsSetup S) (bytes : List (List ℕ)) (J : List Vi
   counts-after old new at is_new =
       ap₂ (λ (l : List PipeCounts) (c : PipeCounts). slice_set l (pipe_of S head.due) c) a.counted
       (is_new ∙ ap (λ (c : PipeCounts). counted c v.step) at)
-      ∙ counts-next J v (length S.pipes) (head-named S is bytes J owners counts shelves a head f)
+      ∙ counts-next J v (length S.pipes) (head-named is a f)
 
-  module _ (more : List PipeCounts) (counted_is : more ≡ map (counts_of (J ++ visit_of S J head.due ∷ [])) (range_with_len 0 (length S.pipes))) where
+  module _ {more : List PipeCounts}
+      (counted_is : more ≡ map (counts_of (J ++ visit_of S J head.due ∷ [])) (range_with_len 0 (length S.pipes))) where
     after-of : (new : List ShelfView) → length new ≡ length mid
-        → ((core : ℕ) (u : ShelfView) → slice_get new core ≡ Some u → IsFollowed S is bytes J owners counts shelves a head f mid m core u)
-        → ((core : ℕ) (u : ShelfView) → slice_get new core ≡ Some u → AreSettled S bytes core (IsDecidedIn S (J ++ v ∷ [])) u.settled u.store)
+        → ((core : ℕ) (u : ShelfView) → slice_get new core ≡ Some u → IsFollowed is a f m core u)
+        → ((core : ℕ) (u : ShelfView) → slice_get new core ≡ Some u
+        → AreSettled S bytes core (IsDecidedIn S (J ++ v ∷ [])) u.settled u.store)
         → IsAfter S bytes (J ++ v ∷ []) owners more new
     after-of new as_many follows settles = record {
       growing = grown;
       one_a_core = as_many ∙ mid-length;
       one_a_pipe = a.one_a_pipe;
       owned = a.owned;
-      pipes = followed-pipes S is bytes J owners counts shelves a head f mid m new follows;
-      due = λ core u e. followed-due S is bytes J owners counts shelves a head f mid m core u (follows core u e);
+      pipes = followed-pipes is a f m new follows;
+      due = λ core u e. followed-due is a f m core u (follows core u e);
       settled = settles;
       counted = counted_is;
     }
@@ -122,14 +124,13 @@ module _ (S : SetupView) (is : IsSetup S) (bytes : List (List ℕ)) (J : List Vi
     pub after-put : (z : Due) (new : List ShelfView) → next_hop S (visit_of S J head.due) ≡ Some z
         → ChangesAt (slice_index owners (pipe_of S z)) (PutsDue z) mid new
         → IsAfter S bytes (J ++ visit_of S J head.due ∷ []) owners more new
-    after-put z new some n =
-        after-of new n.as_many (put-followed S is bytes J owners counts shelves a head f mid m z new some n) settles
+    after-put z new some n = after-of new n.as_many (put-followed is a f m z new some n) settles
       where
         settles : (core : ℕ) (u : ShelfView) → slice_get new core ≡ Some u
             → AreSettled S bytes core (IsDecidedIn S (J ++ v ∷ [])) u.settled u.store
         settles core u e =
             settled-alike S bytes core (IsDecidedIn S J) (IsDecidedIn S (J ++ v ∷ [])) u.settled u.store
-            (λ q k. let d = decided-still S is J v grown z some q k.among in (d.1, d.0))
+            (λ q k. let d = decided-still is J v grown z some q k.among in (d.1, d.0))
             (go (changed-at (slice_index owners (pipe_of S z)) (PutsDue z) mid new n core u e)
             (cases_eq core (slice_index owners (pipe_of S z))))
           where
@@ -151,19 +152,17 @@ module _ (S : SetupView) (is : IsSetup S) (bytes : List (List ℕ)) (J : List Vi
         → IsAfter S bytes (J ++ visit_of S J head.due ∷ []) owners more new
     after-settle p fate new planned number none fate_is n =
         after-of new n.as_many
-        (settle-followed S is bytes J owners counts shelves a head f mid m p.core (SettlesPacket p.number fate)
-        (λ s t c. (c.due, c.pipes, c.visits)) new none n)
-        settles
+        (settle-followed is a f m p.core (SettlesPacket p.number fate) (λ s t c. (c.due, c.pipes, c.visits)) new none n) settles
       where
         fates : fate ≡ fate_of S p
-        fates = fate_is ∙ sym ((fates_hold S is).by_end p v (visit-ends S is J v grown p planned number none))
+        fates = fate_is ∙ sym ((fates_hold S is).by_end p v (visit-ends is J v grown p planned number none))
 
         settles : (core : ℕ) (u : ShelfView) → slice_get new core ≡ Some u
             → AreSettled S bytes core (IsDecidedIn S (J ++ v ∷ [])) u.settled u.store
         settles core u e = go (changed-at p.core (SettlesPacket p.number fate) mid new n core u e) (cases_eq core p.core)
           where
             more-decided : (q : PacketPlan) → Enters S core q → IsDecidedIn S (J ++ v ∷ []) q ↔ (IsDecidedIn S J q ⊎ (q ≡ p))
-            more-decided q k = decided-more S is J v grown p planned number none q k.among
+            more-decided q k = decided-more is J v grown p planned number none q k.among
 
             go : IsChanged p.core (SettlesPacket p.number fate) mid core u → (core ≡ p.core) ⊎ (core ≢ p.core)
                 → AreSettled S bytes core (IsDecidedIn S (J ++ v ∷ [])) u.settled u.store
@@ -171,7 +170,7 @@ module _ (S : SetupView) (is : IsSetup S) (bytes : List (List ℕ)) (J : List Vi
                 settled-more S bytes core (IsDecidedIn S J) (IsDecidedIn S (J ++ v ∷ [])) (entrants_of c.was) (entrants_of u) p
                 (mid-settled core c.was c.there) (record { among = planned; entered = sym here })
                 (undecided-fresh S is bytes core (IsDecidedIn S J) c.was.settled c.was.store (mid-settled core c.was c.there) p planned
-                (decided-not S is J v grown p planned number none))
+                (decided-not is J v grown p planned number none))
                 (subst (λ (x : Fate). Settling (entrants_of c.was) p.number x (entrants_of u)) fates (c.here here).settling)
                 more-decided
             go c (inr apart) =
@@ -191,17 +190,18 @@ module _ (S : SetupView) (is : IsSetup S) (bytes : List (List ℕ)) (J : List Vi
       still-held S bytes p.core (IsDecidedIn S J) (IsDecidedIn S J) (entrants_of t) (entrants_of t) p (mid-settled p.core t e)
       (record { among = planned; entered = refl })
       (undecided-fresh S is bytes p.core (IsDecidedIn S J) t.settled t.store (mid-settled p.core t e) p planned
-      (decided-not S is J v grown p planned number none))
+      (decided-not is J v grown p planned number none))
 
   -- the owner of the pipe ran the visit, and no other core did
-  pub visits-after : (core : ℕ) (u : ShelfView) → IsFollowed S is bytes J owners counts shelves a head f mid m core u
+  pub visits-after : (core : ℕ) (u : ShelfView) → IsFollowed is a f m core u
       → (s : ShelfView) → slice_get shelves core ≡ Some s → u.visits ≡ s.visits + visits_of_core owners core (visit_of S J head.due ∷ [])
   visits-after core u i s e =
       i.same_visits
-      ∙ go (changed-at head.core (VisitsAt S head.due (pipe_of S head.due)) shelves mid m core i.mid_was i.mid_there) (cases_eq core head.core)
+      ∙ go (changed-at head.core (VisitsAt S head.due (pipe_of S head.due)) shelves mid m core i.mid_was i.mid_there)
+      (cases_eq core head.core)
     where
       owner : slice_index owners v.pipe ≡ head.core
-      owner = head-owner S is bytes J owners counts shelves a head f
+      owner = head-owner is a f
 
       go : IsChanged head.core (VisitsAt S head.due (pipe_of S head.due)) shelves core i.mid_was → (core ≡ head.core) ⊎ (core ≢ head.core)
           → i.mid_was.visits ≡ s.visits + visits_of_core owners core (v ∷ [])

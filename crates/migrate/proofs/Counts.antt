@@ -14,7 +14,8 @@ use Rattle.parcel.specs.Counts.{counted}
 use Rattle.core_loop.proofs.Kept.{filter-skip, filter-last}
 
 counts_equal : {pipe p q l m f g : ℕ} → p ≡ q → l ≡ m → f ≡ g
-    → ◌≡◌ {A = PipeCounts} (record { pipe = pipe; passed = p; lost = l; full = f }) (record { pipe = pipe; passed = q; lost = m; full = g })
+    → ◌≡◌ {A = PipeCounts} (record { pipe = pipe; passed = p; lost = l; full = f })
+    (record { pipe = pipe; passed = q; lost = m; full = g })
 counts_equal a b c = cc
 
 module _ (J : List Visit) (v : Visit) where
@@ -57,14 +58,16 @@ module _ (J : List Visit) (v : Visit) where
       by Lost e = counts_equal (of has_passed Lost e ∙ add-zero _) (of has_lost Lost e) (of has_found_full Lost e ∙ add-zero _)
       by Full e = counts_equal (of has_passed Full e ∙ add-zero _) (of has_lost Full e ∙ add-zero _) (of has_found_full Full e)
       by (Pass exit) e =
-          counts_equal (of has_passed (Pass exit) e) (of has_lost (Pass exit) e ∙ add-zero _) (of has_found_full (Pass exit) e ∙ add-zero _)
+          counts_equal (of has_passed (Pass exit) e) (of has_lost (Pass exit) e ∙ add-zero _)
+          (of has_found_full (Pass exit) e ∙ add-zero _)
 
 -- a list over a range, where one place takes another value
 map-range : {B : Type 0} (f h : ℕ → B) (from count i : ℕ) → i < count → ((q : ℕ) → from + i ≢ q → f q ≡ h q)
     → slice_set (map f (range_with_len from count)) i (h (from + i)) ≡ map h (range_with_len from count)
 map-range f h from zero i within others = absurd (omega (arith, within))
 map-range f h from (suc count) zero within others =
-    ap₂ (λ y ys. y ∷ ys) (ap h (add-zero from)) (map-late f h from (from + 1) count (omega arith) (λ q l. others q (λ e. omega (arith, e, l))))
+    ap₂ (λ y ys. y ∷ ys) (ap h (add-zero from))
+    (map-late f h from (from + 1) count (omega arith) (λ q l. others q (λ e. omega (arith, e, l))))
   where
     map-late : {B : Type 0} (f h : ℕ → B) (from next count : ℕ) → from < next → ((q : ℕ) → from < q → f q ≡ h q)
         → map f (range_with_len next count) ≡ map h (range_with_len next count)

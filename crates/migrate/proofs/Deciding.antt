@@ -22,7 +22,7 @@ use Rattle.parcel.proofs.Notes.{last-ends}
 use Rattle.migrate.specs.Running.{IsDecidedIn}
 use Rattle.migrate.proofs.Fronts.{front-among}
 
-module _ (S : SetupView) (is : IsSetup S) (J : List Visit) (v : Visit) (g : IsGrowing S (J ++ v ∷ [])) where
+module _ {S : SetupView} (is : IsSetup S) (J : List Visit) (v : Visit) (g : IsGrowing S (J ++ v ∷ [])) where
   among : Among v (journal_of S)
   among = front-among S is (J ++ v ∷ []) g v (Among-last v J)
 

@@ -33,8 +33,8 @@ none-due (z ∷ due) e = cc
 
 -- with one core more
 pub first-more : (shelves : List ShelfView) (many : ℕ) (s : ShelfView) → slice_get shelves many ≡ Some s → IsCanonical s.due
-    → (head new : Option Head) (first : Option Due) → first ≡ slice_get s.due 0 → FirstBelow shelves many head → LeadsOn head many first new
-    → FirstBelow shelves (many + 1) new
+    → (head new : Option Head) (first : Option Due) → first ≡ slice_get s.due 0 → FirstBelow shelves many head
+    → LeadsOn head many first new → FirstBelow shelves (many + 1) new
 first-more shelves many s at order head new None is below leads =
     subst (FirstBelow shelves (many + 1)) (sym leads) (go head below)
   where

@@ -25,8 +25,8 @@ use Rattle.migrate.specs.Windows.{visits_before, IsBehind, IsDueFrom, IsDecidedB
 use Rattle.migrate.specs.Running.{IsDecidedIn}
 
 -- a filter that all pass, and one that none passes
-pub filter-whole : {X : Type 0} (p : X → Bool) (xs ys : List X) → ((x : X) → Among x xs → p x ≡ true) → ((y : X) → Among y ys → p y ≡ false)
-    → filter p (xs ++ ys) ≡ xs
+pub filter-whole : {X : Type 0} (p : X → Bool) (xs ys : List X) → ((x : X) → Among x xs → p x ≡ true)
+    → ((y : X) → Among y ys → p y ≡ false) → filter p (xs ++ ys) ≡ xs
 filter-whole p [] [] pass fail = refl
 filter-whole p [] (y ∷ ys) pass fail =
     ap (λ (b : Bool). cond b (y ∷ filter p ys) (filter p ys)) (fail y (inl refl)) ∙ filter-whole p [] ys pass (λ z m. fail z (inr m))

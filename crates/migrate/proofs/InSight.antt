@@ -58,8 +58,23 @@ module _ (first : Option Due) (later : List Due) (s : AreInSight first later) wh
 
 -- ---- one more is put in
 
-module _ (first : Due) (later : List Due) (s : AreInSight (Some first) later) (due : Due) (alone : HasNoneOf due.packet (first ∷ later))
-    (low : due.tick < 2 ^ 64 - 1) where
+-- of these the first is in sight, and a visit is to be put in, of a packet of which they have none
+pub record IsToPut (first : Due) (later now : List Due) (due : Due) : Type 0 where
+  pub in_sight : AreInSight (Some first) later
+  pub now_are : first ∷ later ≡ now
+  pub alone : HasNoneOf due.packet now
+  pub low : due.tick < 2 ^ 64 - 1
+
+module _ {first : Due} {later now : List Due} {due : Due} (k : IsToPut first later now due) where
+  abbrev s : AreInSight (Some first) later
+  s = k.in_sight
+
+  alone : HasNoneOf due.packet (first ∷ later)
+  alone = subst (HasNoneOf due.packet) (sym k.now_are) k.alone
+
+  pub later-alone : HasNoneOf due.packet later
+  later-alone x m = alone x (inr m)
+
   -- in front of the first
   pub front-in-sight : Before due first → AreInSight (Some due) (placed first later)
   front-in-sight before = record {
@@ -77,13 +92,13 @@ module _ (first : Due) (later : List Due) (s : AreInSight (Some first) later) (d
       none x m = ⊎_elim (λ same. alone x (inl same)) (λ o. alone x (inr o)) ((Among-placed x first later).0 m)
 
       ticks : (x : Due) → (due ≡ x) ⊎ Among x (placed first later) → x.tick < 2 ^ 64 - 1
-      ticks x (inl same) = subst (λ (y : Due). y.tick < 2 ^ 64 - 1) same low
+      ticks x (inl same) = subst (λ (y : Due). y.tick < 2 ^ 64 - 1) same k.low
       ticks x (inr m) = s.ticks x ((Among-placed x first later).0 m)
 
   -- after it
   pub behind-in-sight : (Before due first → ⊥) → AreInSight (Some first) (placed due later)
   behind-in-sight not = record {
-    canonical = (leads, none, canonical-placed due later (λ x m. alone x (inr m)) s.canonical.2);
+    canonical = (leads, none, canonical-placed due later later-alone s.canonical.2);
     none = λ e. (let clash : Some first ≡ None = e in cc);
     ticks = ticks;
   }
@@ -101,20 +116,20 @@ module _ (first : Due) (later : List Due) (s : AreInSight (Some first) later) (d
       ticks : (x : Due) → (first ≡ x) ⊎ Among x (placed due later) → x.tick < 2 ^ 64 - 1
       ticks x (inl same) = s.ticks x (inl same)
       ticks x (inr m) = ⊎_elim
-          (λ same. subst (λ (y : Due). y.tick < 2 ^ 64 - 1) same low) (λ o. s.ticks x (inr o)) ((Among-placed x due later).0 m)
+          (λ same. subst (λ (y : Due). y.tick < 2 ^ 64 - 1) same k.low) (λ o. s.ticks x (inr o)) ((Among-placed x due later).0 m)
 
   -- the members then
-  pub front-members : (x : Due) → Among x (due ∷ placed first later) ↔ ((due ≡ x) ⊎ Among x (first ∷ later))
-  front-members x = (
+  pub front-members : (x : Due) → Among x (due ∷ placed first later) ↔ ((due ≡ x) ⊎ Among x now)
+  front-members x = subst (λ (l : List Due). Among x (due ∷ placed first later) ↔ ((due ≡ x) ⊎ Among x l)) k.now_are (
     (λ m. ⊎_elim (λ e. inl e) (λ o. inr ((Among-placed x first later).0 o)) m),
     λ m. ⊎_elim (λ e. inl e) (λ o. inr ((Among-placed x first later).1 o)) m,
   )
 
-  pub behind-members : (x : Due) → Among x (first ∷ placed due later) ↔ ((due ≡ x) ⊎ Among x (first ∷ later))
-  behind-members x = (
-    (λ m. ⊎_elim (λ e. inr (inl e)) (λ o. ⊎_elim (λ e. inl e) (λ k. inr (inr k)) ((Among-placed x due later).0 o)) m),
+  pub behind-members : (x : Due) → Among x (first ∷ placed due later) ↔ ((due ≡ x) ⊎ Among x now)
+  behind-members x = subst (λ (l : List Due). Among x (first ∷ placed due later) ↔ ((due ≡ x) ⊎ Among x l)) k.now_are (
+    (λ m. ⊎_elim (λ e. inr (inl e)) (λ o. ⊎_elim (λ e. inl e) (λ n. inr (inr n)) ((Among-placed x due later).0 o)) m),
     λ m. ⊎_elim (λ e. inr ((Among-placed x due later).1 (inl e)))
-        (λ o. ⊎_elim (λ e. inl e) (λ k. inr ((Among-placed x due later).1 (inr k))) o) m,
+        (λ o. ⊎_elim (λ e. inl e) (λ n. inr ((Among-placed x due later).1 (inr n))) o) m,
   )
 
 pub single-in-sight : (due : Due) (later : List Due) → AreInSight None later → due.tick < 2 ^ 64 - 1 → AreInSight (Some due) later
@@ -130,7 +145,3 @@ single-in-sight due later s low = subst (AreInSight (Some due)) (sym empty) (rec
 pub first-tick : (first : Option Due) (later : List Due) → AreInSight first later → IfSome first (λ due. due.tick < 2 ^ 64 - 1)
 first-tick None later s = tt
 first-tick (Some d) later s = s.ticks d (inl refl)
-
--- the first one, and those after it
-pub seen : (first : Option Due) (f : Due) (later now : List Due) → first ≡ Some f → cons_option first later ≡ now → f ∷ later ≡ now
-seen first f later now e v = ap (λ (o : Option Due). cons_option o later) (sym e) ∙ v

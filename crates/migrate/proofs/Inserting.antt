@@ -20,7 +20,7 @@ inserting-none all old c = record {
   canonical = c;
 }
 
-module _ (all yielded old now : List Due) (s : IsInserting all yielded old now) (x : Due) (within : length yielded < length all)
+module _ {all yielded old now : List Due} (s : IsInserting all yielded old now) {x : Due} (within : length yielded < length all)
     (is : x ≡ slice_index_or all (length yielded) x) where
   pub inserting-alone : AllPairs (λ a b. a.packet ≢ b.packet) all → All (λ a. HasNoneOf a.packet old) all → HasNoneOf x.packet now
   inserting-alone apart alone y m same = ⊎_elim
@@ -33,9 +33,9 @@ module _ (all yielded old now : List Due) (s : IsInserting all yielded old now) 
       at : (d : Due) → x ≡ slice_index_or all (length yielded) d
       at d = is ∙ get_or_default all (length yielded) x d within
 
-  pub inserting-more : (new : List Due) → ((y : Due) → Among y new ↔ ((x ≡ y) ⊎ Among y now)) → IsCanonical new
+  pub inserting-more : {new : List Due} → ((y : Due) → Among y new ↔ ((x ≡ y) ⊎ Among y now)) → IsCanonical new
       → IsInserting all (yielded ++ x ∷ []) old new
-  inserting-more new members canonical = record {
+  inserting-more members canonical = record {
     source = source;
     members = λ y. (
       (λ m. ⊎_elim (λ e. inl (subst (λ (d : Due). Among d (yielded ++ x ∷ [])) e (Among-last x yielded)))

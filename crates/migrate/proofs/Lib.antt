@@ -1,4 +1,5 @@
 pub mod After
+pub mod AtRest
 pub mod Begun
 pub mod Carried
 pub mod CoreLists

@@ -25,8 +25,8 @@ use Rattle.migrate.specs.Moving.{MovesAt, IsOnRoute, GivesPipe, ReceivesPipe, Ca
 use Rattle.migrate.specs.Running.{HoldsPipe, IsDecidedIn, ArePending, IsAfter}
 use Rattle.migrate.proofs.NextVisit.{pending-one}
 
-module _ (S : SetupView) (is : IsSetup S) (bytes : List (List ℕ)) (J : List Visit) (owners : List ℕ) (counts : List PipeCounts)
-    (shelves : List ShelfView) (a : IsAfter S bytes J owners counts shelves) where
+module _ {S : SetupView} (is : IsSetup S) {bytes : List (List ℕ)} {J : List Visit} {owners : List ℕ} {counts : List PipeCounts}
+    {shelves : List ShelfView} (a : IsAfter S bytes J owners counts shelves) where
   -- what is due is of a packet of the setup
   pub due-routed : (core : ℕ) (s : ShelfView) (x : Due) → slice_get shelves core ≡ Some s → Among x s.due → IsOnRoute S x
   due-routed core s x e m =
@@ -50,8 +50,8 @@ module _ (S : SetupView) (is : IsSetup S) (bytes : List (List ℕ)) (J : List Vi
       → slice_index owners (pipe_of S x) ≡ core
   due-owner core s x e m = (((a.due core s e).members x).0 m).1
 
-  module _ (pipe giver taker : ℕ) (named : pipe < length S.pipes) (owned : slice_index owners pipe ≡ giver) (within : taker < S.cores)
-      (apart : giver ≢ taker) (new : List ShelfView) (c : CarriesPipe S pipe giver taker shelves new) where
+  module _ {pipe giver taker : ℕ} (named : pipe < length S.pipes) (owned : slice_index owners pipe ≡ giver)
+      (within : taker < S.cores) (apart : giver ≢ taker) {new : List ShelfView} (c : CarriesPipe S pipe giver taker shelves new) where
     -- the giver has the pipe
     giver-within : giver < length shelves
     giver-within =

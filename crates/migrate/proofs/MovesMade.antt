@@ -1,5 +1,5 @@
 -- Pipes move between two windows: their owners are others, and nothing else that a run has come to changes.
-use Rattle.std.proofs.Common.{◌≡◌, ◌⊎◌, inl, inr, ℕ, ◌+◌, ◌<◌, ◌≤◌, List, [], ◌∷◌, length, take, slice_index_or, All, sym, ap, ◌∙◌, subst, arith}
+use Rattle.std.proofs.Common.{◌≡◌, ◌⊎◌, inl, inr, ℕ, ◌+◌, ◌<◌, ◌≤◌, List, [], ◌∷◌, length, take, slice_index_or, sym, ap, ◌∙◌, subst, arith}
 use Rattle.std.specs.Prelude.{fold}
 use Rattle.std.proofs.lemmas.Bool.{cases_lt}
 use Rattle.std.proofs.lemmas.List.{get_or_default, take_more}
@@ -14,10 +14,9 @@ use Rattle.migrate.specs.Moves.{moved_owners}
 use Rattle.migrate.specs.UnderWay.{DoStand, HaveMoved, SameButPlaces}
 
 -- one pipe moves
-pub moved-same : (u v w : ShelvesView) (moves : List Move) (next : ℕ) (d : Move) → All (λ m. m.pipe < length u.setup.pipes) moves
-    → next < length moves → SameButPlaces u v → DoStand v → w.setup ≡ v.setup → w.failed ≡ v.failed
-    → MovesPipe v (slice_index_or moves next d).pipe (slice_index_or moves next d).core w → SameButPlaces v w
-moved-same u v w moves next d named inside same stand setup works m = record {
+pub moved-same : {u v w : ShelvesView} {pipe core : ℕ} → pipe < length u.setup.pipes → SameButPlaces u v → DoStand v
+    → w.setup ≡ v.setup → w.failed ≡ v.failed → MovesPipe v pipe core w → SameButPlaces v w
+moved-same {u} {v} {w} {pipe} {core} named same stand setup works m = record {
   setup = setup;
   works = works;
   end = m.end;
@@ -26,11 +25,8 @@ moved-same u v w moves next d named inside same stand setup works m = record {
   visits = λ core s t e f. (m.shelves core giver.0 s t giver.1 e f).visits;
 }
   where
-    pipe : ℕ
-    pipe = (slice_index_or moves next d).pipe
-
     within : pipe < length v.setup.pipes
-    within = subst (λ (S : SetupView). pipe < length S.pipes) (sym same.setup) (named next d inside)
+    within = subst (λ (S : SetupView). pipe < length S.pipes) (sym same.setup) named
 
     owner : owner_now v pipe < v.setup.cores
     owner = stand.1.pipes.owners pipe 0 (let l = within in omega (arith, l, stand.1.pipes.one_a_pipe))
@@ -55,10 +51,10 @@ same-then u v w a b = record {
         b.visits core m.0 t m.1 f ∙ a.visits core s m.0 e m.1
 
 -- one move more is made
-pub moved-more : (S : SetupView) (moves : List Move) (next window : ℕ) (d : Move) (v w : ShelvesView) → HaveMoved S moves next window v
+pub moved-more : {S : SetupView} {moves : List Move} {next window : ℕ} (d : Move) {v w : ShelvesView} → HaveMoved S moves next window v
     → next < length moves → (slice_index_or moves next d).window ≤ window
     → w.owners ≡ moved_owners v.owners (slice_index_or moves next d) → HaveMoved S moves (next + 1) window w
-moved-more S moves next window d v w h inside here owners = record {
+moved-more {S} {moves} {next} {window} d {v} {w} h inside here owners = record {
   within = omega (arith, inside);
   owners =
       owners

@@ -45,8 +45,8 @@ changed-at at Changes old new c core t e =
       other = λ differ. (let both : Some t ≡ Some s.0 = sym e ∙ c.others core differ ∙ s.1 in cc);
     }
 
-module _ (S : SetupView) (is : IsSetup S) (bytes : List (List ℕ)) (J : List Visit) (owners : List ℕ) (counts : List PipeCounts)
-    (shelves : List ShelfView) (a : IsAfter S bytes J owners counts shelves) where
+module _ {S : SetupView} (is : IsSetup S) {bytes : List (List ℕ)} {J : List Visit} {owners : List ℕ} {counts : List PipeCounts}
+    {shelves : List ShelfView} (a : IsAfter S bytes J owners counts shelves) where
   g : IsGrowing S J
   g = a.growing
 
@@ -63,7 +63,7 @@ module _ (S : SetupView) (is : IsSetup S) (bytes : List (List ℕ)) (J : List Vi
       let s = at-within shelves (slice_index owners (pipe_of S y)) (pending-owned y m) in
       (s.0, s.1, ((a.due (slice_index owners (pipe_of S y)) s.0 s.1).members y).1 (m, refl))
 
-  module _ (head : Head) (f : IsHeadOf shelves head) where
+  module _ {head : Head} (f : IsHeadOf shelves head) where
     abbrev x : Due
     x = head.due
 
@@ -99,7 +99,7 @@ module _ (S : SetupView) (is : IsSetup S) (bytes : List (List ℕ)) (J : List Vi
 
     -- ---- the visit is made
 
-    module _ (mid : List ShelfView) (m : ChangesAt head.core (VisitsAt S head.due (pipe_of S head.due)) shelves mid) where
+    module _ {mid : List ShelfView} (m : ChangesAt head.core (VisitsAt S head.due (pipe_of S head.due)) shelves mid) where
       abbrev Mid : ℕ → ShelfView → Type 0
       Mid core t = IsChanged head.core (VisitsAt S x pipe) shelves core t
 

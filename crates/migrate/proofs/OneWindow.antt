@@ -63,7 +63,8 @@ module _ (w : ShelvesView) (is : IsSetup w.setup) (g : IsGrowing w.setup (visits
           into x m =
               let v = (a.members x).0 m in (
                 (pending-due S is w.end g x).1 (v.0, v.1, v.3),
-                ap (λ (y : Due). slice_index w.owners (pipe_of S y)) (sym v.3) ∙ ap (slice_index w.owners) (sym (pipe-is v.0 v.1.among)) ∙ v.2,
+                ap (λ (y : Due). slice_index w.owners (pipe_of S y)) (sym v.3)
+                    ∙ ap (slice_index w.owners) (sym (pipe-is v.0 v.1.among)) ∙ v.2,
               )
 
           out : (x : Due) → Among x (pending S front) × (slice_index w.owners (pipe_of S x) ≡ core) → Among x l
@@ -111,7 +112,7 @@ module _ (w : ShelvesView) (is : IsSetup w.setup) (g : IsGrowing w.setup (visits
 
 -- ---- where the next window starts
 
-module _ (w : ShelvesView) (is : IsSetup w.setup) (g : IsGrowing w.setup (visits_before w.setup w.end)) (bytes : List (List ℕ))
+module _ (w : ShelvesView) (is : IsSetup w.setup) (g : IsGrowing w.setup (visits_before w.setup w.end)) {bytes : List (List ℕ)}
     (r : RunsOn bytes (visits_before w.setup w.end) w) where
   -- where nothing is due, all is run
   pub none-left : HaveNone w.shelves → HaveRunAll w
@@ -119,7 +120,7 @@ module _ (w : ShelvesView) (is : IsSetup w.setup) (g : IsGrowing w.setup (visits
     where
       empty : (x : Due) → Among x (pending w.setup (visits_before w.setup w.end)) → v.tick + 1 ≤ x.tick
       empty x m =
-          let t = pending-there w.setup is bytes (visits_before w.setup w.end) w.owners w.counts w.shelves r.after x m in
+          let t = pending-there is r.after x m in
           absurd (none _ t.0 x t.1 t.2)
 
       go : (v.tick < w.end) ⊎ (w.end ≤ v.tick) → v.tick < w.end
@@ -130,21 +131,20 @@ module _ (w : ShelvesView) (is : IsSetup w.setup) (g : IsGrowing w.setup (visits
           (λ m. let b = (among-before w.setup is w.end v m).1 in omega (arith, b, l)) in
           absurd (omega (arith, late))
 
-  module _ (head : Head) (f : IsHeadOf w.shelves head) where
+  module _ {head : Head} (f : IsHeadOf w.shelves head) where
     -- nothing is pending before the first due visit
     first-late : (x : Due) → Among x (pending w.setup (visits_before w.setup w.end)) → head.due.tick ≤ x.tick
     first-late x m =
-        let t = pending-there w.setup is bytes (visits_before w.setup w.end) w.owners w.counts w.shelves r.after x m in
+        let t = pending-there is r.after x m in
         go (f.least _ t.0 x t.1 t.2) (cases_lt x.tick head.due.tick)
       where
         go : (Before x head.due → ⊥) → (x.tick < head.due.tick) ⊎ (head.due.tick ≤ x.tick) → head.due.tick ≤ x.tick
         go not (inl l) = absurd (not (inl l))
         go not (inr l) = l
 
+    -- it is one that is due from the end of the last window on
     head-visit : (v : Visit) × IsDueFrom w.setup w.end v × (due_of v ≡ head.due)
-    head-visit =
-        (pending-due w.setup is w.end g head.due).0
-        (head-pending w.setup is bytes (visits_before w.setup w.end) w.owners w.counts w.shelves r.after head f)
+    head-visit = (pending-due w.setup is w.end g head.due).0 (head-pending is r.after f)
 
     -- the least due tick is the least one of a visit from the end of the last window on
     pub start-least : IsLeastFrom w.setup w.end head.due.tick
@@ -166,127 +166,125 @@ module _ (w : ShelvesView) (is : IsSetup w.setup) (g : IsGrowing w.setup (visits
         let early = all v.0 v.1.among in
         omega (arith, late, early)
 
-    -- ---- the window is run
+-- ---- the window is run
 
-    module _ (end : ℕ) (long : head.due.tick < end) (x : ShelvesView) (stays : StaysAtRun w x)
-        (p : RunsPart bytes (visits_before w.setup w.end) end w x) (all : HaveNoneBefore x.shelves end) where
-      abbrev J : List Visit
-      J = visits_before w.setup w.end ++ p.part
+-- it starts at the first due visit; a part of the journal is made, all before its end, and nothing else is due before that
+pub record IsWindow (w : ShelvesView) (bytes : List (List ℕ)) (head : Head) (end : ℕ) (x : ShelvesView) : Type 0 where
+  pub is : IsSetup w.setup
+  pub grows : IsGrowing w.setup (visits_before w.setup w.end)
+  pub runs : RunsOn bytes (visits_before w.setup w.end) w
+  pub first : IsHeadOf w.shelves head
+  pub long : head.due.tick < end
+  pub stays : StaysAtRun w x
+  pub makes : RunsPart bytes (visits_before w.setup w.end) end w x
+  pub all : HaveNoneBefore x.shelves end
 
-      -- said of the setup as it was
-      after : IsAfter w.setup bytes J x.owners x.counts x.shelves
-      after = subst (λ (S : SetupView). IsAfter S bytes J x.owners x.counts x.shelves) stays.setup p.runs.after
+module _ {w : ShelvesView} {bytes : List (List ℕ)} {head : Head} {end : ℕ} {x : ShelvesView} (k : IsWindow w bytes head end x) where
+  abbrev p : RunsPart bytes (visits_before w.setup w.end) end w x
+  p = k.makes
 
-      late : (y : Due) → Among y (pending w.setup J) → end ≤ y.tick
-      late y m =
-          let t = pending-there w.setup is bytes J x.owners x.counts x.shelves after y m in
-          all _ t.0 y t.1 t.2
+  abbrev J : List Visit
+  J = visits_before w.setup w.end ++ k.makes.part
 
-      early : (v : Visit) → Among v J → v.tick < end
-      early v m = ⊎_elim
-          (λ a. let b = (among-before w.setup is w.end v a).1 in let l = start-least.late in omega (arith, b, l, long))
-          (λ a. p.early v a) (Among-append v (visits_before w.setup w.end) p.part m)
+  starts : IsLeastFrom w.setup w.end head.due.tick
+  starts = start-least w k.is k.grows k.runs k.first
 
-      -- all visits before the end are made
-      pub front-grown : visits_before w.setup w.end ++ p.part ≡ visits_before w.setup end
-      front-grown = front-is w.setup is J after.growing end early late
+  -- said of the setup as it was
+  after : IsAfter w.setup bytes J x.owners x.counts x.shelves
+  after = subst (λ (S : SetupView). IsAfter S bytes J x.owners x.counts x.shelves) k.stays.setup p.runs.after
 
-      pub window-grows : IsGrowing w.setup (visits_before w.setup end)
-      window-grows = subst (IsGrowing w.setup) front-grown after.growing
+  late : (y : Due) → Among y (pending w.setup J) → end ≤ y.tick
+  late y m =
+      let t = pending-there k.is after y m in k.all _ t.0 y t.1 t.2
 
-      -- the part that was made is the window
-      pub part-is : p.part ≡ visits_within w.setup head.due.tick end
-      part-is =
-          sym (ap (filter inside) (rest.1 ∙ append_assoc (visits_before w.setup w.end) p.part rest.0)
-          ∙ skip (visits_before w.setup w.end) (p.part ++ rest.0) before
-          ∙ filter-whole inside p.part rest.0 within behind)
+  early : (v : Visit) → Among v J → v.tick < end
+  early v m = ⊎_elim
+      (λ a. let b = (among-before w.setup k.is w.end v a).1 in let l = starts.late in let n = k.long in omega (arith, b, l, n))
+      (λ a. p.early v a) (Among-append v (visits_before w.setup w.end) p.part m)
+
+  -- all visits before the end are made
+  front-grown : visits_before w.setup w.end ++ p.part ≡ visits_before w.setup end
+  front-grown = front-is w.setup k.is J after.growing end early late
+
+  pub window-grows : IsGrowing w.setup (visits_before w.setup end)
+  window-grows = subst (IsGrowing w.setup) front-grown after.growing
+
+  -- the part that was made is the window
+  pub part-is : p.part ≡ visits_within w.setup head.due.tick end
+  part-is =
+      sym (ap (filter inside) (rest.1 ∙ append_assoc (visits_before w.setup w.end) p.part rest.0)
+      ∙ skip (visits_before w.setup w.end) (p.part ++ rest.0) before
+      ∙ filter-whole inside p.part rest.0 within behind)
+    where
+      inside : Visit → Bool
+      inside v = nat_le head.due.tick v.tick && nat_lt v.tick end
+
+      rest : (rest : List Visit) × (journal_of w.setup ≡ J ++ rest)
+      rest = rest-of w.setup k.is J after.growing
+
+      skip : (xs ys : List Visit) → ((v : Visit) → Among v xs → inside v ≡ false) → filter inside (xs ++ ys) ≡ filter inside ys
+      skip [] ys none = refl
+      skip (v ∷ xs) ys none =
+          ap (λ (b : Bool). cond b (v ∷ filter inside (xs ++ ys)) (filter inside (xs ++ ys))) (none v (inl refl))
+          ∙ skip xs ys (λ u m. none u (inr m))
+
+      before : (v : Visit) → Among v (visits_before w.setup w.end) → inside v ≡ false
+      before v m =
+          let b = (among-before w.setup k.is w.end v m).1 in
+          let l = starts.late in
+          and_left _ _ (lt-leb head.due.tick v.tick (omega (arith, b, l)))
+
+      within : (v : Visit) → Among v p.part → inside v ≡ true
+      within v m = and_from _ _ (le-leb head.due.tick v.tick (starts.least v among from)) (lt-ltb v.tick end (p.early v m))
         where
-          inside : Visit → Bool
-          inside v = nat_le head.due.tick v.tick && nat_lt v.tick end
+          among : Among v (journal_of w.setup)
+          among =
+              front-among w.setup k.is J after.growing v (Among-append-right v (visits_before w.setup w.end) p.part m)
 
-          rest : (rest : List Visit) × (journal_of w.setup ≡ J ++ rest)
-          rest = rest-of w.setup is J after.growing
-
-          skip : (xs ys : List Visit) → ((v : Visit) → Among v xs → inside v ≡ false) → filter inside (xs ++ ys) ≡ filter inside ys
-          skip [] ys none = refl
-          skip (v ∷ xs) ys none =
-              ap (λ (b : Bool). cond b (v ∷ filter inside (xs ++ ys)) (filter inside (xs ++ ys))) (none v (inl refl))
-              ∙ skip xs ys (λ u m. none u (inr m))
-
-          before : (v : Visit) → Among v (visits_before w.setup w.end) → inside v ≡ false
-          before v m =
-              let b = (among-before w.setup is w.end v m).1 in
-              let l = start-least.late in
-              and_left _ _ (lt-leb head.due.tick v.tick (omega (arith, b, l)))
-
-          within : (v : Visit) → Among v p.part → inside v ≡ true
-          within v m = and_from _ _ (le-leb head.due.tick v.tick (start-least.least v among from)) (lt-ltb v.tick end (p.early v m))
+          from : w.end ≤ v.tick
+          from = go (cases_lt v.tick w.end)
             where
-              among : Among v (journal_of w.setup)
-              among =
-                  front-among w.setup is J after.growing v (Among-append-right v (visits_before w.setup w.end) p.part m)
-
-              from : w.end ≤ v.tick
-              from = go (cases_lt v.tick w.end)
+              go : (v.tick < w.end) ⊎ (w.end ≤ v.tick) → w.end ≤ v.tick
+              go (inr l) = l
+              go (inl l) = absurd (twice (before-among w.setup k.is w.end v among l))
                 where
-                  go : (v.tick < w.end) ⊎ (w.end ≤ v.tick) → w.end ≤ v.tick
-                  go (inr l) = l
-                  go (inl l) = absurd (twice (before-among w.setup is w.end v among l))
-                    where
-                      twice : Among v (visits_before w.setup w.end) → ⊥
-                      twice a =
-                          before-irreflexive (due_of v)
-                          (rises-across (scheme_of w.setup) (visits_before w.setup w.end) p.part v v after.growing.rises a m)
+                  twice : Among v (visits_before w.setup w.end) → ⊥
+                  twice a =
+                      before-irreflexive (due_of v)
+                      (rises-across (scheme_of w.setup) (visits_before w.setup w.end) p.part v v after.growing.rises a m)
 
-          behind : (v : Visit) → Among v rest.0 → inside v ≡ false
-          behind v m = and_right _ _ (le-ltb v.tick end (rest-late w.setup is J after.growing end late rest.0 rest.1 v m))
+      behind : (v : Visit) → Among v rest.0 → inside v ≡ false
+      behind v m = and_right _ _ (le-ltb v.tick end (rest-late w.setup k.is J after.growing end late rest.0 rest.1 v m))
 
-      -- the window has a visit
-      pub part-some : 1 ≤ length p.part
-      part-some = go p.part refl
-        where
-          first : Among head-visit.0 (visits_within w.setup head.due.tick end)
-          first =
-              let v = head-visit in
-              let tick : v.0.tick ≡ head.due.tick = ap (λ (d : Due). d.tick) v.2 in
-              Among-filter (λ (u : Visit). nat_le head.due.tick u.tick && nat_lt u.tick end) v.0 (journal_of w.setup) v.1.among
-              (and_from _ _ (le-leb head.due.tick v.0.tick (omega (arith, tick))) (lt-ltb v.0.tick end (omega (arith, tick, long))))
+  -- the window has a visit
+  pub part-some : 1 ≤ length p.part
+  part-some = go p.part refl
+    where
+      visit : (v : Visit) × IsDueFrom w.setup w.end v × (due_of v ≡ head.due)
+      visit = head-visit w k.is k.grows k.runs k.first
 
-          go : (l : List Visit) → p.part ≡ l → 1 ≤ length p.part
-          go [] e = absurd (subst (Among head-visit.0) (sym part-is ∙ e) first)
-          go (v ∷ l) e = let n : length p.part ≡ length (v ∷ l) = ap length e in omega (arith, n)
+      first : Among visit.0 (visits_within w.setup head.due.tick end)
+      first =
+          let tick : visit.0.tick ≡ head.due.tick = ap (λ (d : Due). d.tick) visit.2 in
+          let n = k.long in
+          Among-filter (λ (u : Visit). nat_le head.due.tick u.tick && nat_lt u.tick end) visit.0 (journal_of w.setup) visit.1.among
+          (and_from _ _ (le-leb head.due.tick visit.0.tick (omega (arith, tick))) (lt-ltb visit.0.tick end (omega (arith, tick, n))))
 
-      -- and it stands after it
-      pub window-stands : (windows : ℕ) (failed : Bool)
-          → ShelvesStand bytes (record {
-            setup = w.setup;
-            owners = x.owners;
-            counts = x.counts;
-            shelves = x.shelves;
-            end = end;
-            windows = windows;
-            made = x.made;
-            failed = failed;
-          })
-      window-stands windows failed =
-          stands-from
-          (record {
-            setup = w.setup;
-            owners = x.owners;
-            counts = x.counts;
-            shelves = x.shelves;
-            end = end;
-            windows = windows;
-            made = x.made;
-            failed = failed;
-          })
-          is window-grows bytes
-          (record {
-            after = subst (λ (K : List Visit). IsAfter w.setup bytes K x.owners x.counts x.shelves) front-grown after;
-            made = p.runs.made ∙ ap length front-grown;
-            few = p.runs.few;
-          })
+      go : (l : List Visit) → p.part ≡ l → 1 ≤ length p.part
+      go [] e = absurd (subst (Among visit.0) (sym part-is ∙ e) first)
+      go (v ∷ l) e = let n : length p.part ≡ length (v ∷ l) = ap length e in omega (arith, n)
 
-      pub part-count : x.made ≡ w.made + length p.part
-      part-count =
-          p.runs.made ∙ length-append (visits_before w.setup w.end) p.part ∙ ap (λ (n : ℕ). n + length p.part) (sym r.made)
+  -- and it stands after it
+  pub window-stands : {windows : ℕ} {failed : Bool}
+      → ShelvesStand bytes (record x { setup = w.setup; end = end; windows = windows; failed = failed })
+  window-stands {windows} {failed} =
+      stands-from (record x { setup = w.setup; end = end; windows = windows; failed = failed }) k.is window-grows bytes
+      (record {
+        after = subst (λ (K : List Visit). IsAfter w.setup bytes K x.owners x.counts x.shelves) front-grown after;
+        made = p.runs.made ∙ ap length front-grown;
+        few = p.runs.few;
+      })
+
+  pub part-count : x.made ≡ w.made + length p.part
+  part-count =
+      p.runs.made ∙ length-append (visits_before w.setup w.end) p.part ∙ ap (λ (n : ℕ). n + length p.part) (sym k.runs.made)

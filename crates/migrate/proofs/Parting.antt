@@ -36,7 +36,7 @@ parting-none S pipe all going staying g s = record {
   members = λ x. ((λ m. absurd (subst (Among x) s m)), λ m. absurd m.0);
 }
 
-module _ (S : SetupView) (pipe : ℕ) (whole all going staying : List Due) (p : IsParting S pipe whole all going staying) where
+module _ {S : SetupView} {pipe : ℕ} {whole all going staying : List Due} (p : IsParting S pipe whole all going staying) where
   pub parting-among : (x : Due) → Among x all → Among x whole
   parting-among x m = subst (Among x) (sym p.split) (Among-append-right x p.popped all m)
 
@@ -55,7 +55,7 @@ module _ (S : SetupView) (pipe : ℕ) (whole all going staying : List Due) (p : 
       popped : whole ≡ p.popped
       popped = p.split ∙ ap (λ (l : List Due). p.popped ++ l) none ∙ append-nil p.popped
 
-  module _ (x : Due) (rest : List Due) (first : all ≡ x ∷ rest) (order : IsCanonical all) where
+  module _ {x : Due} {rest : List Due} (first : all ≡ x ∷ rest) (order : IsCanonical all) where
     next-order : IsCanonical (x ∷ rest)
     next-order = subst IsCanonical first order
 
@@ -75,9 +75,9 @@ module _ (S : SetupView) (pipe : ℕ) (whole all going staying : List Due) (p : 
     parting-alone y m = was-differ y ((p.members y).0 m).0
 
     -- it goes
-    pub parting-go : pipe_of S x == pipe ≡ true → x.tick < 2 ^ 64 - 1 → (more : List Due) → more ≡ going ++ x ∷ []
+    pub parting-go : pipe_of S x == pipe ≡ true → x.tick < 2 ^ 64 - 1 → {more : List Due} → more ≡ going ++ x ∷ []
         → IsParting S pipe whole rest more staying
-    parting-go to low more is = record {
+    parting-go to low is = record {
       popped = p.popped ++ x ∷ [];
       split = next-split;
       differ = next-differ;
@@ -100,9 +100,9 @@ module _ (S : SetupView) (pipe : ℕ) (whole all going staying : List Due) (p : 
     }
 
     -- it stays
-    pub parting-stay : pipe_of S x == pipe ≡ false → (more : List Due) → IsCanonical more
+    pub parting-stay : pipe_of S x == pipe ≡ false → {more : List Due} → IsCanonical more
         → ((y : Due) → Among y more ↔ ((x ≡ y) ⊎ Among y staying)) → IsParting S pipe whole rest going more
-    parting-stay not more canonical members = record {
+    parting-stay not canonical members = record {
       popped = p.popped ++ x ∷ [];
       split = next-split;
       differ = next-differ;

@@ -25,27 +25,21 @@ get-set-other (y ∷ ys) zero (suc i) x not = refl
 get-set-other (y ∷ ys) (suc k) zero x not = refl
 get-set-other (y ∷ ys) (suc k) (suc i) x not = get-set-other ys k i x (λ e. not (ap suc e))
 
-get-here : {X : Type 0} (xs : List X) (k : ℕ) (x : X) → k < length xs → x ≡ slice_index_or xs k x → slice_get xs k ≡ Some x
-get-here [] k x l e = absurd (omega (arith, l))
-get-here (y ∷ ys) zero x l e = ap Some (sym e)
-get-here (y ∷ ys) (suc k) x l e = get-here ys k x (omega (arith, l)) e
+-- what is read at an index is there
+pub get-at : {X : Type 0} (xs : List X) (k : ℕ) (x : X) → k < length xs → x ≡ slice_index_or xs k x → slice_get xs k ≡ Some x
+get-at [] k x l e = absurd (omega (arith, l))
+get-at (y ∷ ys) zero x l e = ap Some (sym e)
+get-at (y ∷ ys) (suc k) x l e = get-at ys k x (omega (arith, l)) e
 
 pub changes-set : (at : ℕ) (Changes : ShelfView → ShelfView → Type 0) (xs : List ShelfView) (k : ℕ) (old new : ShelfView) → k ≡ at
     → k < length xs → old ≡ slice_index_or xs k old → Changes old new → ChangesAt at Changes xs (slice_set xs k new)
 changes-set at Changes xs k old new is within read change = record {
   as_many = length-set xs k new;
   here = λ s t e f.
-      (let one : Some s ≡ Some old = sym e ∙ ap (slice_get xs) (sym is) ∙ get-here xs k old within read in
+      (let one : Some s ≡ Some old = sym e ∙ ap (slice_get xs) (sym is) ∙ get-at xs k old within read in
       let two : Some t ≡ Some new = sym f ∙ ap (slice_get (slice_set xs k new)) (sym is) ∙ get-set-here xs k new within in
       let was : old ≡ s = cc in
       let now : new ≡ t = cc in
       subst (Changes s) now (subst (λ (u : ShelfView). Changes u new) was change));
   others = λ other not. get-set-other xs k other new (λ e. not (e ∙ is));
 }
-
--- what is read at an index
-pub get-at : (xs : List ShelfView) (k : ℕ) (s : ShelfView) → k < length xs → s ≡ slice_index_or xs k s → slice_get xs k ≡ Some s
-get-at xs k s l e = get-here xs k s l e
-
-pub read-at : (xs : List ShelfView) (k : ℕ) (s : ShelfView) → k < length xs → s ≡ slice_index_or xs k s → slice_get xs k ≡ Some s
-read-at xs k s l e = get-here xs k s l e

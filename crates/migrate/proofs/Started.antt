@@ -111,8 +111,8 @@ same-none shelves = record {
 -- ---- packets
 
 -- numbers rise, so a packet stands at one index
-pub one-index : (S : SetupView) → IsSetup S → (i j : ℕ) (p q : PacketPlan) → slice_get S.packets i ≡ Some p → slice_get S.packets j ≡ Some q
-    → p.number ≡ q.number → i ≡ j
+pub one-index : (S : SetupView) → IsSetup S → (i j : ℕ) (p q : PacketPlan) → slice_get S.packets i ≡ Some p
+    → slice_get S.packets j ≡ Some q → p.number ≡ q.number → i ≡ j
 one-index S is i j p q e f same = go (cases_order i j)
   where
     at-i : slice_index_or S.packets i p ≡ p
@@ -149,7 +149,7 @@ no-entry S p e = go (route_of S p.number) refl
         let clash : None ≡ Some first = sym e ∙ some in
         cc
 
-module _ (S : SetupView) (is : IsSetup S) (many : ℕ) (p : PacketPlan) (at : slice_get S.packets many ≡ Some p) where
+module _ {S : SetupView} (is : IsSetup S) (many : ℕ) {p : PacketPlan} (at : slice_get S.packets many ≡ Some p) where
   planned : Among p S.packets
   planned = among-get S.packets many p at
 
@@ -206,7 +206,7 @@ module _ (S : SetupView) (is : IsSetup S) (many : ℕ) (p : PacketPlan) (at : sl
   wayless-not : IsWayless S many p → ⊥
   wayless-not (i, l, e, r) = let same : i ≡ many = one-index S is i many p p e at refl in omega (arith, l, same)
 
-  module _ (old mid : List ShelfView) (h : PacketsEntered S many old mid) where
+  module _ {old mid : List ShelfView} (h : PacketsEntered S many old mid) where
     was-at : (core : ℕ) (t : ShelfView) → slice_get mid core ≡ Some t → (s : ShelfView) × (slice_get old core ≡ Some s)
     was-at core t e =
         at-within old core (let l = slice_get_within mid core t e in omega (arith, l, h.as_many))
@@ -368,8 +368,8 @@ module _ (S : SetupView) (is : IsSetup S) (many : ℕ) (p : PacketPlan) (at : sl
       }
 
     -- either way
-    pub enters-more : (new : List ShelfView) → HasEnteredBy S p (entry S p) mid new → PacketsEntered S (many + 1) old new
-    enters-more new by = go (entry S p) refl by
+    pub enters-more : {new : List ShelfView} → HasEnteredBy S p (entry S p) mid new → PacketsEntered S (many + 1) old new
+    enters-more {new} by = go (entry S p) refl by
       where
         go : (o : Option Due) → entry S p ≡ o → HasEnteredBy S p o mid new → PacketsEntered S (many + 1) old new
         go (Some x) e c = enters-put new x e c

@@ -12,8 +12,8 @@ use Rattle.journal.proofs.VisitsTo.{pipe-order, Decided, decided-visit, decided-
 use Rattle.migrate.specs.ShelvesView.{pipe_in}
 use Rattle.migrate.specs.Running.{HoldsPipe, ComesToPipe}
 
-module _ (S : SetupView) (J : List Visit) (x : Due) (pipe : ℕ) (old : List (ℕ × SetupPipeView)) (comes : ComesToPipe S J x pipe old)
-    (own : SetupPipeView) (found : pipe_in old pipe ≡ Some own) where
+module _ {S : SetupView} {J : List Visit} {x : Due} {pipe : ℕ} {old : List (ℕ × SetupPipeView)}
+    (comes : ComesToPipe S J x pipe old) {own : SetupPipeView} (found : pipe_in old pipe ≡ Some own) where
   own-is : IsPipe S J pipe own
   own-is =
       let both : Some comes.has.0 ≡ Some own = sym comes.has.1 ∙ found in
@@ -29,7 +29,7 @@ module _ (S : SetupView) (J : List Visit) (x : Due) (pipe : ℕ) (old : List (�
   pub own-few : own.memory.visits < PACKETS_MAX
   own-few = let v = own-is.stands.visits in let f = comes.few in omega (arith, f, v)
 
-  module _ (new : SetupPipeView) (step : Step) (d : Decided S x pipe own new step) where
+  module _ {new : SetupPipeView} {step : Step} (d : Decided S x pipe own new step) where
     pub own-step : step ≡ (visit_of S J x).step
     own-step = ap (λ (v : Visit). v.step) (decided-visit d J own-is)
 

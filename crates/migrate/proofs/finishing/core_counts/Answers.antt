@@ -3,7 +3,7 @@ use Rattle.migrate.specs.ShelvesView.{ShelfView}
 use Rattle.migrate.specs.Finishing.{core_counts_of}
 use Rattle.migrate.proofs.CoreLists.{of-none, of-more, of-whole}
 use Rattle.migrate.proofs.CoresAtEnd.{counts-here}
-use Rattle.migrate.proofs.ShelfSteps.{read-at}
+use Rattle.migrate.proofs.ShelfSteps.{get-at}
 use Rattle.migrate.proofs.finishing.core_counts.Goals as goal
 
 pub loop-core-init : goal.loop-core-init
@@ -23,9 +23,8 @@ loop-core-preserved c =
       settles = 0;
       windows = c.args.windows;
     }) c.loop-core.invariant c.in_ok-push.ensures.items
-    (λ s e. counts-here c.args.setup.now c.args.owners.now c.args.windows c.loop-core.core s c.index-shelves-core.result
-    c.count_owned.result c.count_entrants.result c.shelf.inside.visits
-    (sym (read-at c.args.shelves.now c.loop-core.core c.index-shelves-core.result c.loop-core-test.true c.index-shelves-core.is) ∙ e)
+    (λ s e. counts-here c.args.setup.now c.args.owners.now c.args.windows c.loop-core.core
+    (sym (get-at c.args.shelves.now c.loop-core.core c.index-shelves-core.result c.loop-core-test.true c.index-shelves-core.is) ∙ e)
     c.count_owned.ensures c.count_entrants.ensures (ap (λ (t : ShelfView). t.visits) c.shelf.view_is))
 
 pub returns-clause-count : goal.returns-clause-count

@@ -11,8 +11,7 @@ loop-due-init c =
 pub is_to-requires : goal.is_to-requires
 is_to-requires c =
     c.requires.routed c.in-Some.due
-    (parting-among c.args.setup.now c.args.pipe c.args.all.now c.loop-due.all c.loop-due.going.items c.loop-due.staying c.loop-due.invariant
-    c.in-Some.due (subst (Among c.in-Some.due) (sym c.in-Some.ensures.first) (inl refl)))
+    (parting-among c.loop-due.invariant c.in-Some.due (subst (Among c.in-Some.due) (sym c.in-Some.ensures.first) (inl refl)))
 
 pub loop-due-smaller-in-Continue-1 : goal.loop-due-smaller-in-Continue-1
 loop-due-smaller-in-Continue-1 c =
@@ -21,14 +20,12 @@ loop-due-smaller-in-Continue-1 c =
 
 pub loop-due-preserved-in-Continue-1 : goal.loop-due-preserved-in-Continue-1
 loop-due-preserved-in-Continue-1 c =
-    parting-go c.args.setup.now c.args.pipe c.args.all.now c.loop-due.all c.loop-due.going.items c.loop-due.staying c.loop-due.invariant
-    c.in-Some.due c.pop.new.self c.in-Some.ensures.first c.in-Some.ensures.canonical (sym c.is_to.ensures ∙ c.if-is_to.true)
-    c.in-Some.ensures.tick c.push.new.self.items c.in_ok-push.ensures.items
+    parting-go c.loop-due.invariant c.in-Some.ensures.first c.in-Some.ensures.canonical (sym c.is_to.ensures ∙ c.if-is_to.true)
+    c.in-Some.ensures.tick c.in_ok-push.ensures.items
 
 pub insert-requires-clause-alone : goal.insert-requires-clause-alone
 insert-requires-clause-alone c =
-    parting-alone c.args.setup.now c.args.pipe c.args.all.now c.loop-due.all c.loop-due.going.items c.loop-due.staying c.loop-due.invariant
-    c.in-Some.due c.pop.new.self c.in-Some.ensures.first c.in-Some.ensures.canonical
+    parting-alone c.loop-due.invariant c.in-Some.ensures.first c.in-Some.ensures.canonical
 
 pub loop-due-smaller : goal.loop-due-smaller
 loop-due-smaller c =
@@ -37,11 +34,8 @@ loop-due-smaller c =
 
 pub loop-due-preserved : goal.loop-due-preserved
 loop-due-preserved c =
-    parting-stay c.args.setup.now c.args.pipe c.args.all.now c.loop-due.all c.loop-due.going.items c.loop-due.staying c.loop-due.invariant
-    c.in-Some.due c.pop.new.self c.in-Some.ensures.first c.in-Some.ensures.canonical (sym c.is_to.ensures ∙ c.if-is_to.false)
-    c.insert.new.self c.in_ok-insert.ensures.canonical c.in_ok-insert.ensures.members
+    parting-stay c.loop-due.invariant c.in-Some.ensures.first c.in-Some.ensures.canonical (sym c.is_to.ensures ∙ c.if-is_to.false)
+    c.in_ok-insert.ensures.canonical c.in_ok-insert.ensures.members
 
 pub returns : goal.returns
-returns c =
-    parting-end c.args.setup.now c.args.pipe c.args.all.now c.loop-due.all c.loop-due.going.items c.loop-due.staying c.loop-due.invariant
-    c.in_default.ensures.first.0
+returns c = parting-end c.loop-due.invariant c.in_default.ensures.first.0

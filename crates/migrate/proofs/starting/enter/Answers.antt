@@ -1,13 +1,14 @@
-use Rattle.std.proofs.Common.{◌<◌, sym, ◌∙◌, arith}
+use Rattle.std.proofs.Common.{◌<◌, ℕ, sym, ◌∙◌, subst, arith}
 use Rattle.journal.specs.declared.setup.PacketPlan.{PacketPlan}
+use Rattle.deadline_heap.specs.Canonical.{HasNoneOf}
 use Rattle.mn_base.proofs.Members.{All-Among}
 use Rattle.migrate.proofs.Started.{entry-packet, first-fits}
 use Rattle.migrate.proofs.starting.enter.Goals as goal
 
 pub put_due-requires-clause-alone : goal.put_due-requires-clause-alone
-put_due-requires-clause-alone c = λ core s e other m same.
-    c.requires.alone core s e other m
-    (same ∙ entry-packet c.args.setup.now c.args.plan c.in-Some.due c.requires.among (sym c.first_due.ensures ∙ c.in-Some.is))
+put_due-requires-clause-alone c =
+    let packet = entry-packet c.args.setup.now c.args.plan c.in-Some.due c.requires.among (sym c.first_due.ensures ∙ c.in-Some.is) in
+    λ core s e. subst (λ (n : ℕ). HasNoneOf n s.due) (sym packet) (c.requires.alone core s e)
 
 pub put_due-requires-clause-tick : goal.put_due-requires-clause-tick
 put_due-requires-clause-tick c =

@@ -1,7 +1,7 @@
 use Rattle.std.proofs.Common.{slice_get, ap, ◌∙◌, subst}
 use Rattle.deadline_heap.specs.Canonical.{IsCanonical}
 use Rattle.migrate.specs.ShelvesView.{ShelfView}
-use Rattle.migrate.proofs.ShelfSteps.{read-at}
+use Rattle.migrate.proofs.ShelfSteps.{get-at}
 use Rattle.migrate.proofs.FirstDue.{first-more, first-whole, none-whole, none-first}
 use Rattle.migrate.proofs.window.first_of.Goals as goal
 
@@ -11,7 +11,7 @@ loop-core-init c = none-first c.args.shelves.now
 pub loop-core-preserved : goal.loop-core-preserved
 loop-core-preserved c =
     first-more c.args.shelves.now c.loop-core.core c.index-shelves-core.result
-    (read-at c.args.shelves.now c.loop-core.core c.index-shelves-core.result c.loop-core-test.true c.index-shelves-core.is)
+    (get-at c.args.shelves.now c.loop-core.core c.index-shelves-core.result c.loop-core-test.true c.index-shelves-core.is)
     (subst (λ (s : ShelfView). IsCanonical s.due) c.shelf.view_is c.first.ensures.canonical)
     c.loop-core.head c.earlier-head.result c.first.result
     (c.first.ensures.first ∙ ap (λ (s : ShelfView). slice_get s.due 0) c.shelf.view_is)

@@ -2,13 +2,13 @@ use Rattle.std.proofs.Common.{◌<◌, ℕ, length, slice_index, slice_index_or,
 use Rattle.journal.specs.SetupView.{route_of}
 use Rattle.journal.specs.Hops.{pipe_of}
 use Rattle.migrate.specs.Running.{PutsDue}
-use Rattle.migrate.proofs.ShelfSteps.{changes-set, read-at}
+use Rattle.migrate.proofs.ShelfSteps.{changes-set, get-at}
 use Rattle.migrate.proofs.window.put_due.Goals as goal
 
 pub put_due-requires-clause-alone : goal.put_due-requires-clause-alone
 put_due-requires-clause-alone c =
     c.requires.alone (slice_index_or c.args.owners.now c.pipe_at.result 0) c.index_mut.result.now
-    (read-at c.args.shelves.now.items (slice_index_or c.args.owners.now c.pipe_at.result 0) c.index_mut.result.now
+    (get-at c.args.shelves.now.items (slice_index_or c.args.owners.now c.pipe_at.result 0) c.index_mut.result.now
     (let n : c.pipe_at.result < length c.args.setup.now.pipes = c.pipe_at.ensures.named in
     c.requires.owned c.pipe_at.result 0 (omega (arith, n, c.requires.one_a_pipe)))
     c.index_mut.ensures.value)

@@ -11,10 +11,11 @@ use Rattle.migrate.proofs.shelves.Shelves.finish.Goals as goal
 
 pub outcome_of-requires-clause-settled : goal.outcome_of-requires-clause-settled
 outcome_of-requires-clause-settled c =
-    let q = c.self.invariant.stands c.if-failed.false in (
+    let q = c.self.invariant.stands c.if-failed.false in
+    let all = subst HaveRunAll (sym c.self.view_is) c.requires.all in (
       q.0,
       subst (AreAllSettled c.self.inside.setup.now q.0) (sym c.in_ok-settled.ensures)
-          (settled-all (shelves_view c.self.inside) c.self.invariant.is_setup (subst HaveRunAll (sym c.self.view_is) c.requires.all) q.0 q.1),
+          (settled-all (shelves_view c.self.inside) c.self.invariant.is_setup all q.0 q.1),
     )
 
 pub outcome_of-requires-clause-pipe_counts : goal.outcome_of-requires-clause-pipe_counts

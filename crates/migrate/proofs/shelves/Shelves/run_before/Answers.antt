@@ -1,9 +1,10 @@
 use Rattle.std.proofs.Common.{◌≡◌, ◌+◌, ◌++◌, ◌≤◌, Bool, MatchBool, length, ap, ◌∙◌, subst, arith}
 use Rattle.journal.specs.SetupView.{SetupView}
 use Rattle.journal.specs.Journal.{journal_of}
-use Rattle.migrate.specs.Running.{HaveNoneBefore}
+use Rattle.migrate.specs.Running.{HaveNoneBefore, StaysAtRun, HasRunBefore}
 use Rattle.migrate.proofs.RunsLater.{runs-nothing, runs-then, stays-same, stays-then}
 use Rattle.migrate.proofs.shelves.Shelves.run_before.Goals as goal
+use Rattle.migrate.proofs.shelves.Shelves.run_before.Goals.{In_ok-run_next}
 
 pub loop-init : goal.loop-init
 loop-init c = record { run = runs-nothing c.args.end c.args.self.now; stays = stays-same c.args.self.now }
@@ -31,18 +32,20 @@ loop-smaller c =
     ap (λ (S : SetupView). length (journal_of S)) c.in_ok-run_next.ensures.stays.setup in
     omega (arith, more, few, long)
 
-pub loop-preserved : goal.loop-preserved
-loop-preserved c = record {
-  run = runs-then c.args.end c.args.self.now c.loop.self c.run_next.new.self c.loop.invariant.stays c.loop.invariant.run
-      c.in_ok-run_next.ensures.run;
-  stays = stays-then c.args.self.now c.loop.self c.run_next.new.self c.loop.invariant.stays c.in_ok-run_next.ensures.stays;
-}
-
-pub returns-clause-run : goal.returns-clause-run
-returns-clause-run c =
+-- what was run so far, and the next visit
+run : (c : In_ok-run_next) → HasRunBefore c.args.end c.args.self.now c.run_next.new.self
+run c =
     runs-then c.args.end c.args.self.now c.loop.self c.run_next.new.self c.loop.invariant.stays c.loop.invariant.run
     c.in_ok-run_next.ensures.run
 
+stays : (c : In_ok-run_next) → StaysAtRun c.args.self.now c.run_next.new.self
+stays c = stays-then c.args.self.now c.loop.self c.run_next.new.self c.loop.invariant.stays c.in_ok-run_next.ensures.stays
+
+pub loop-preserved : goal.loop-preserved
+loop-preserved c = let at = (goal.at.loop-preserved c).In_ok-run_next in record { run = run at; stays = stays at }
+
+pub returns-clause-run : goal.returns-clause-run
+returns-clause-run c = run (goal.at.returns-clause-run c).In_ok-run_next
+
 pub returns-clause-stays : goal.returns-clause-stays
-returns-clause-stays c =
-    stays-then c.args.self.now c.loop.self c.run_next.new.self c.loop.invariant.stays c.in_ok-run_next.ensures.stays
+returns-clause-stays c = stays (goal.at.returns-clause-stays c).In_ok-run_next
