@@ -33,9 +33,9 @@ first_part xs n is some =
     (slice_split_first is_point xs 0 (omega (arith, is, some)))
 
 -- as the code cuts it
-pub parted : (xs front back : List ℕ) (n : ℕ) → n ≡ prefix_len isnt_point xs → n < length xs → front ≡ take n xs → back ≡ drop (n + 1) xs
-    → slice_split is_point xs ≡ front ∷ slice_split is_point back
-parted xs front back n is some front_is back_is =
+pub parted : (xs : List ℕ) {front back : List ℕ} (n : ℕ) → n ≡ prefix_len isnt_point xs → n < length xs → front ≡ take n xs
+    → back ≡ drop (n + 1) xs → slice_split is_point xs ≡ front ∷ slice_split is_point back
+parted xs {front} {back} n is some front_is back_is =
     first_part xs n is some ∙ ap (λ part. part ∷ slice_split is_point (drop (n + 1) xs)) (sym front_is)
     ∙ ap (λ rest. front ∷ slice_split is_point rest) (sym back_is)
 

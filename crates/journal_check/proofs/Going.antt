@@ -52,9 +52,9 @@ head_refused J line text refusal.NoMemory is parts = tt
 head_refused J line text (refusal.Fault f) is parts = fault_at_head J text f (subst (λ (l : List ℕ). PartsAt l 0 text f) is parts)
 
 -- the head line opens the text
-pub at_start : (S : SetupView) (text rest line : List ℕ) (visits : VisitsView) → visits.setup ≡ S → visits.made ≡ [] → line ≡ journal_head
+pub at_start : {S : SetupView} {text rest line : List ℕ} {visits : VisitsView} → visits.setup ≡ S → visits.made ≡ [] → line ≡ journal_head
     → text ≡ line ++ rest → IsAt S text visits rest 0
-at_start S text rest line visits setup none is opens = record {
+at_start {S} {text} {rest} {line} {visits} setup none is opens = record {
   of_setup = setup;
   so_far =
       opens ∙ ap (λ (l : List ℕ). l ++ rest) (is ∙ sym (append-nil journal_head))
@@ -81,9 +81,9 @@ module _ {S : SetupView} {text : List ℕ} {visits : VisitsView} {rest : List �
       fault_at_visit v f goes_on (subst (λ (l : List ℕ). PartsAt l (1 + count) rest f) is parts)
 
   -- it opens it
-  pub at_next : (next : VisitsView) (v : Visit) (line behind : List ℕ) → next.setup ≡ visits.setup → next.made ≡ visits.made ++ v ∷ []
+  pub at_next : {next : VisitsView} (v : Visit) {line behind : List ℕ} → next.setup ≡ visits.setup → next.made ≡ visits.made ++ v ∷ []
       → line ≡ visit_line v → rest ≡ line ++ behind → IsAt S text next behind (count + 1)
-  at_next next v line behind setup made is opens =
+  at_next {next} v {line} {behind} setup made is opens =
       let one_more : concat (journal_lines next.made) ≡ concat (journal_lines visits.made) ++ line =
       ap (λ (J : List Visit). concat (journal_lines J)) made ∙ ap concat (journal_lines-push visits.made [] v)
       ∙ concat-append (journal_lines visits.made) (visit_line v ∷ [])

@@ -39,11 +39,12 @@ unfolding red_spec_of red_pipe_of_parts
 has_no_base word rest base parts is none = rw (parts, sym is ∙ none) refl
 
 -- and four that are one, with a colon after them
-pub has_base : (word : List ℕ) {a b c d : List ℕ} (rest : Option (Bor (List ℕ))) (back : Bor (List ℕ)) (found : Option PipeSpec) (base : PipeSpec)
+pub has_base : (word : List ℕ) {a b c d : List ℕ} {rest : Option (Bor (List ℕ))} {back : Bor (List ℕ)} {found : Option PipeSpec}
+    {base : PipeSpec}
     → colon_parts word ≡ a ∷ b ∷ c ∷ d ∷ rest_parts (option_copied rest) → rest ≡ Some back → found ≡ pipe_of_parts (a ∷ b ∷ c ∷ d ∷ [])
     → found ≡ Some base → red_spec_of word ≡ red_of_parts base (colon_parts back.now)
 unfolding red_spec_of red_pipe_of_parts
-has_base word rest back found base parts behind is one = rw (parts, sym is ∙ one, behind) refl
+has_base word parts behind is one = rw (parts, sym is ∙ one, behind) refl
 
 -- five parts or more say nothing of early drops
 pub has_more : (base : PipeSpec) (word : List ℕ) {a b c d : List ℕ} (rest : Option (Bor (List ℕ)))

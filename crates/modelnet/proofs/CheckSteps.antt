@@ -124,11 +124,11 @@ module _ (limits : ReadLimits) (order : CheckView) where
       has.so_far.stands.others Journal (journal_is_unread topology trace directory old mid has) tt
 
   -- the journal can't be read whole
-  pub journal_stops : (topology : TopologyView) (trace : Capture) (directory : Option (List ℕ)) (old mid new : Host) (status : Status)
-      (name : List ℕ) → HasInputs limits (check_planning order) topology trace directory old mid → name ≡ order.journal
+  pub journal_stops : {topology : TopologyView} {trace : Capture} {directory : Option (List ℕ)} {old mid : Host} (new : Host)
+      (status : Status) {name : List ℕ} → HasInputs limits (check_planning order) topology trace directory old mid → name ≡ order.journal
       → ReadsInput (input Journal name limits.journal) (mid Journal) (new Journal) (Err status) → Others Journal mid new
       → Answered (check_command limits order) old new status
-  journal_stops topology trace directory old mid new status name has named own others =
+  journal_stops {topology} {trace} {directory} {old} {mid} new status has named own others =
       stops_reading (check_command limits order) has.read (journal_input limits order) [] status old mid new
       (journal_is_next topology trace directory old mid has) (journal_is_unread topology trace directory old mid has)
       (subst (λ n. ReadsInput (input Journal n limits.journal) (mid Journal) (new Journal) (Err status)) named own) others
@@ -139,7 +139,7 @@ module _ (limits : ReadLimits) (order : CheckView) where
     pub inputs : HasInputs limits (check_planning order) topology trace directory old mid
     pub read : HasInput (journal_input limits order) journal mid new
 
-  module _ (topology : TopologyView) (trace : Capture) (directory : Option (List ℕ)) (journal : List ℕ) (old new : Host)
+  module _ {topology : TopologyView} {trace : Capture} {directory : Option (List ℕ)} {journal : List ℕ} {old new : Host}
       (has : HasAll topology trace directory journal old new) where
     abbrev all_reads : ReadInputs
     all_reads = has.inputs.read ++ (journal_input limits order, journal) ∷ []
@@ -227,12 +227,12 @@ module _ (limits : ReadLimits) (order : CheckView) where
     screen_is_as_at_entry = all_read.stands.others Screen (subst (λ inputs. ReadsNot inputs Screen) all_inputs screen_apart.0) tt
 
     -- the journal is right, and the line that says so was written whole, or can't be
-    pub check_ends : (planned : PlannedView) (text bytes : List ℕ) (last : Host) (result : Result (Unit {0}) Status)
+    pub check_ends : {planned : PlannedView} {text bytes : List ℕ} (last : Host) (result : Result (Unit {0}) Status)
         → IsPlan topology trace (check_planning order).options directory planned → journal ≡ journal_out (journal_of planned.setup)
         → text ≡ right_line (length (journal_of planned.setup)) → bytes ≡ text
         → WritesOutput the_screen bytes (new Screen) (last Screen) result → Others Screen new last
         → Answered (check_command limits order) old last (status_of result)
-    check_ends planned text bytes last result plan right is same own others =
+    check_ends {planned} {text} {bytes} last result plan right is same own others =
         ends_as_it_writes (check_command limits order) all_reads ((the_screen, text) ∷ []) old new last (record {
           inputs = all_inputs;
           outputs = refl;

@@ -32,11 +32,11 @@ module _ (limits : ReadLimits) (order : JournalView) where
       here.answered
 
   -- the journal of the plan was written whole, or can't be
-  pub journal_ends : (planned : PlannedView) (text bytes name : List ℕ) (old mid new : Host) (result : Result (Unit {0}) Status)
+  pub journal_ends : {planned : PlannedView} {text bytes name : List ℕ} {old mid : Host} (new : Host) (result : Result (Unit {0}) Status)
       → HasPlan limits (journal_planning order) old mid planned → text ≡ journal_out (journal_of planned.setup) → bytes ≡ text
       → name ≡ order.out → WritesOutput (output Out name) bytes (mid Out) (new Out) result → Others Out mid new
       → Answered (journal_command limits order) old new (status_of result)
-  journal_ends planned text bytes name old mid new result has is same named own others =
+  journal_ends {planned} {text} {bytes} {name} {old} {mid} new result has is same named own others =
       let at = output Out order.out in
       let inputs = plan_inputs limits (journal_planning order) old mid planned has in
       ends_as_it_writes (journal_command limits order) has.reads ((at, text) ∷ []) old mid new (record {

@@ -242,22 +242,22 @@ module _ (limits : ReadLimits) (asked : PlanningView) where
   directory_apart text trace_text = (directory_no_topology, (directory_no_trace, tt))
 
   -- the directory can't be read whole
-  pub directory_stops : (old mid new : Host) (topology : TopologyView) (trace : Capture) (status : Status) (name : List ℕ)
+  pub directory_stops : {old mid : Host} (new : Host) {topology : TopologyView} {trace : Capture} (status : Status) {name : List ℕ}
       → HasTrace limits asked topology trace old mid → asked.directory ≡ Some name
       → ReadsInput (the_directory limits name) (mid Directory) (new Directory) (Err status) → Others Directory mid new
       → HasStopped (reading_command limits asked) old new status
-  directory_stops old mid new topology trace status name has named own others = record {
+  directory_stops {old} {mid} new {topology} {trace} status {name} has named own others = record {
     early = read_is_early (the_directory limits name) (mid Directory) (new Directory) status own;
     answered = stops_reading (reading_command limits asked) (two_read limits asked has.text has.trace_text) (the_directory limits name) []
         status old mid new (directory_is_next old mid topology trace name has named) (directory_apart has.text has.trace_text) own others;
   }
 
   -- it was read whole
-  pub has_directory : (old mid new : Host) (topology : TopologyView) (trace : Capture) (name text : List ℕ)
+  pub has_directory : {old mid : Host} (new : Host) {topology : TopologyView} {trace : Capture} {name : List ℕ} (text : List ℕ)
       → HasTrace limits asked topology trace old mid → asked.directory ≡ Some name
       → ReadsInput (the_directory limits name) (mid Directory) (new Directory) (Ok text) → Others Directory mid new
       → HasInputs limits asked topology trace (Some text) old new
-  has_directory old mid new topology trace name text has named own others = record {
+  has_directory {old} {mid} new {topology} {trace} {name} text has named own others = record {
     text = has.text;
     trace_text = has.trace_text;
     rest = text ∷ [];

@@ -103,20 +103,21 @@ module _ (out_name report_name out report : List ℕ) where
       ((output Out out_name, out) ∷ (output Report report_name, report) ∷ []) old new
       (screen_is_next out_name report_name out report None old mid new has)
 
+module _ {out_name report_name out report text : List ℕ} {old first second : Host} where
   -- what is shown was written whole, or can't be
-  pub screen_ends : (text bytes : List ℕ) (old first second new : Host) (result : Result (Unit {0}) Status)
-      → HasReport out_name report_name out report (Some text) old first second → bytes ≡ text
-      → WritesOutput the_screen bytes (second Screen) (new Screen) result → Others Screen second new
+  pub screen_ends : (new : Host) (result : Result (Unit {0}) Status)
+      → HasReport out_name report_name out report (Some text) old first second
+      → WritesOutput the_screen text (second Screen) (new Screen) result → Others Screen second new
       → Answered (writing_command (run_writings out_name report_name out report (Some text))) old new (status_of result)
-  screen_ends text bytes old first second new (Err status) has same own others =
+  screen_ends new (Err status) has own others =
       stops_writing (writing_command (run_writings out_name report_name out report (Some text))) []
       ((output Out out_name, out) ∷ (output Report report_name, report) ∷ []) the_screen [] text [] status old second new
       (screen_is_next out_name report_name out report (Some text) old first second has) tt (screen_apart, (screen_apart_report, tt))
-      (subst (λ b. WritesOutput the_screen b (second Screen) (new Screen) (Err status)) same own) others
-  screen_ends text bytes old first second new (Ok done) has same own others =
+      own others
+  screen_ends new (Ok done) has own others =
       let c = writing_command (run_writings out_name report_name out report (Some text)) in
       let before = (output Out out_name, out) ∷ (output Report report_name, report) ∷ [] in
       is_done c [] ((output Out out_name, out) ∷ (output Report report_name, report) ∷ (the_screen, text) ∷ []) old new
       (has_written c [] before the_screen [] text [] old second new
       (screen_is_next out_name report_name out report (Some text) old first second has) tt (screen_apart, (screen_apart_report, tt))
-      (subst (λ b. WritesOutput the_screen b (second Screen) (new Screen) (Ok done)) same own) others)
+      own others)

@@ -8,5 +8,4 @@ returns-then-len-bytes c = one_part c.args.bytes.now c.part_len-len.result c.par
 pub returns : goal.returns
 returns c =
     let within : c.part_len-len.result < length c.args.bytes.now = omega arith in
-    parted c.args.bytes.now c.split_at.result.0.now c.split_at-2.result.1.now c.part_len-len.result c.part_len-len.ensures.value within
-    c.split_at.ensures.front c.split_at-2.ensures.back
+    parted c.args.bytes.now c.part_len-len.result c.part_len-len.ensures.value within c.split_at.ensures.front c.split_at-2.ensures.back

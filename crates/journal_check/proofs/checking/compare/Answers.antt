@@ -15,8 +15,7 @@ returns-in_err-rest-clause-fault c =
 pub loop-line-init : goal.loop-line-init
 loop-line-init c =
     let line : c.as_bytes.result.now ≡ journal_head = search rules in
-    at_start c.args.setup.now c.args.text.now c.in_ok-rest.rest.now c.as_bytes.result.now c.in_ok-visits.visits c.in_ok-visits.ensures.setup
-    c.in_ok-visits.ensures.none_made line c.in_ok-rest.ensures.behind
+    at_start c.in_ok-visits.ensures.setup c.in_ok-visits.ensures.none_made line c.in_ok-rest.ensures.behind
 
 pub overflow_add-count : goal.overflow_add-count
 overflow_add-count c = omega (arith, at_few c.loop-line.invariant c.requires.bytes)
@@ -42,8 +41,7 @@ pub loop-line-preserved : goal.loop-line-preserved
 loop-line-preserved c =
     let line : c.as_bytes-in-Some.result.now ≡ visit_line c.in-Some.visit = search rules in
     let made = at_some c.in_ok-visit.field-0 c.in-Some.visit _ c.in-Some.is c.in_ok-visit.ensures.made in
-    at_next c.loop-line.invariant c.next.new.self c.in-Some.visit c.as_bytes-in-Some.result.now c.in_ok-rest-2.rest.now
-    c.in_ok-visit.ensures.setup made line c.in_ok-rest-2.ensures.behind
+    at_next c.loop-line.invariant c.in-Some.visit c.in_ok-visit.ensures.setup made line c.in_ok-rest-2.ensures.behind
 
 pub returns-then-is_empty-clause-right : goal.returns-then-is_empty-clause-right
 returns-then-is_empty-clause-right c =

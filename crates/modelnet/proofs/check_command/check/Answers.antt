@@ -43,8 +43,7 @@ returns-in_err-journal g c =
     let old = g.H.Host.part c.args.host.now in
     let mid = g.H.Host.part c.read_inputs.new.host in
     let inputs = c.in_ok-inputs.inputs in
-    rw is (journal_stops limits c.args.order.now inputs.topology inputs.trace inputs.directory old mid (g.H.Host.part c.read_input.new.host)
-    c.in_err-journal.field-0.0 c.as_str-name.result.now
+    rw is (journal_stops limits c.args.order.now (g.H.Host.part c.read_input.new.host) c.in_err-journal.field-0.0
     (subst (λ a. HasInputs limits a inputs.topology inputs.trace inputs.directory old mid) c.of_check-asked.ensures c.in_ok-inputs.ensures.read)
     (c.as_str-name.ensures.lent ∙ ap (λ (o : CheckView). o.journal) c.order.view_is)
     c.in_err-journal.ensures.own c.in_err-journal.ensures.others)
@@ -69,8 +68,7 @@ returns-in_err-planned g c =
         others = c.in_ok-journal.ensures.others;
       };
     } in
-    rw is (plan_refused limits c.args.order.now inputs.topology inputs.trace inputs.directory c.in_ok-journal.journal old
-    (g.H.Host.part c.read_input.new.host) all c.in_err-planned.field-0.0
+    rw is (plan_refused limits c.args.order.now all c.in_err-planned.field-0.0
     (subst (λ o. IfFault c.in_err-planned.field-0.0 (PlanFirst inputs.topology o inputs.directory)) options c.in_err-planned.ensures.fault))
 
 pub returns-in_err-visits : goal.returns-in_err-visits
@@ -94,8 +92,7 @@ returns-in_err-visits g c =
         others = c.in_ok-journal.ensures.others;
       };
     } in
-    rw is (journal_refused limits c.args.order.now inputs.topology inputs.trace inputs.directory c.in_ok-journal.journal old
-    (g.H.Host.part c.read_input.new.host) all planned c.in_err-visits.field-0.0
+    rw is (journal_refused limits c.args.order.now all planned c.in_err-visits.field-0.0
     (subst (λ o. IsPlan inputs.topology inputs.trace o inputs.directory planned) options c.in_ok-planned.ensures.planned)
     (subst (λ (p : PlannedView). IfFault c.in_err-visits.field-0.0 (JournalFirst (journal_of p.setup) c.in_ok-journal.journal)) c.planned.view_is
     c.in_err-visits.ensures.fault))
@@ -106,8 +103,8 @@ returns-in_default g c =
     let old = g.H.Host.part c.args.host.now in
     let mid = g.H.Host.part c.read_inputs.new.host in
     let inputs = c.in_ok-inputs.inputs in
-    without_memory limits c.args.order.now inputs.topology inputs.trace inputs.directory c.in_ok-journal.journal old
-    (g.H.Host.part c.read_input.new.host) (record {
+    let all : HasAll limits c.args.order.now inputs.topology inputs.trace inputs.directory c.in_ok-journal.journal old
+    (g.H.Host.part c.read_input.new.host) = record {
       mid = mid;
       inputs = subst (λ a. HasInputs limits a inputs.topology inputs.trace inputs.directory old mid) c.of_check-asked.ensures
           c.in_ok-inputs.ensures.read;
@@ -117,7 +114,8 @@ returns-in_default g c =
         own = c.in_ok-journal.ensures.own;
         others = c.in_ok-journal.ensures.others;
       };
-    })
+    } in
+    without_memory limits c.args.order.now all
 
 pub write_output-requires : goal.write_output-requires
 write_output-requires g c =
@@ -125,8 +123,8 @@ write_output-requires g c =
     let old = g.H.Host.part c.args.host.now in
     let mid = g.H.Host.part c.read_inputs.new.host in
     let inputs = c.in_ok-inputs.inputs in
-    ap (λ p. p.active) (screen_is_as_at_entry limits c.args.order.now inputs.topology inputs.trace inputs.directory c.in_ok-journal.journal old
-    (g.H.Host.part c.read_input.new.host) (record {
+    let all : HasAll limits c.args.order.now inputs.topology inputs.trace inputs.directory c.in_ok-journal.journal old
+    (g.H.Host.part c.read_input.new.host) = record {
       mid = mid;
       inputs = subst (λ a. HasInputs limits a inputs.topology inputs.trace inputs.directory old mid) c.of_check-asked.ensures
           c.in_ok-inputs.ensures.read;
@@ -136,8 +134,8 @@ write_output-requires g c =
         own = c.in_ok-journal.ensures.own;
         others = c.in_ok-journal.ensures.others;
       };
-    }))
-    ∙ c.requires.inactive Screen
+    } in
+    ap (λ p. p.active) (screen_is_as_at_entry limits c.args.order.now all) ∙ c.requires.inactive Screen
 
 pub returns : goal.returns
 returns g c =
@@ -159,9 +157,7 @@ returns g c =
         others = c.in_ok-journal.ensures.others;
       };
     } in
-    check_ends limits c.args.order.now inputs.topology inputs.trace inputs.directory c.in_ok-journal.journal old
-    (g.H.Host.part c.read_input.new.host) all planned c.in-Ok.line c.as_slice.result.now (g.H.Host.part c.write_output.new.host)
-    c.write_output.result
+    check_ends limits c.args.order.now all (g.H.Host.part c.write_output.new.host) c.write_output.result
     (subst (λ o. IsPlan inputs.topology inputs.trace o inputs.directory planned) options c.in_ok-planned.ensures.planned)
     (c.in_ok-visits.ensures.right ∙ ap (λ (p : PlannedView). journal_out (journal_of p.setup)) c.planned.view_is)
     (c.in-Ok.ensures ∙ ap (λ n. right_line n) c.in_ok-visits.ensures.count

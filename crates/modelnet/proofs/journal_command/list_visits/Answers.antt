@@ -37,8 +37,7 @@ returns g c =
     let old = g.H.Host.part c.args.host.now in
     let mid = g.H.Host.part c.read_plan.new.host in
     let planned = c.in_ok-planned.planned in
-    journal_ends limits c.args.order.now planned c.in-Ok.text c.as_slice.result.now c.as_str.result.now old mid
-    (g.H.Host.part c.write_output.new.host) c.write_output.result
+    journal_ends limits c.args.order.now (g.H.Host.part c.write_output.new.host) c.write_output.result
     (subst (λ a. HasPlan limits a old mid planned) c.of_journal.ensures c.in_ok-planned.ensures.plan)
     (c.in-Ok.ensures ∙ ap (λ (p : PlannedView). journal_out (journal_of p.setup)) c.planned.view_is) c.as_slice.ensures.lent
     (c.as_str.ensures.lent ∙ ap (λ (o : JournalView). o.out) c.order.view_is) c.write_output.ensures.own c.write_output.ensures.others

@@ -15,14 +15,13 @@ returns-in_err-text-in-Some-clause-read g c =
     let named : c.args.asked.now.directory ≡ Some c.in-Some.name.now = sym (ap (λ (p : PlanningView). p.directory) c.asked.view_is)
     ∙ ap (λ d. option_copied d) c.in-Some.is in
     λ start topology trace has.
-    rw is (directory_stops c.args.limits.now c.args.asked.now start (g.H.Host.part c.args.host.now) (g.H.Host.part c.read_input.new.host)
-    topology trace c.in_err-text-in-Some.field-0.0 c.in-Some.name.now has named c.in_err-text-in-Some.ensures.own
-    c.in_err-text-in-Some.ensures.others)
+    rw is (directory_stops c.args.limits.now c.args.asked.now (g.H.Host.part c.read_input.new.host) c.in_err-text-in-Some.field-0.0
+    has named c.in_err-text-in-Some.ensures.own c.in_err-text-in-Some.ensures.others)
 
 pub returns-in_ok-text-in-Some-clause-read : goal.returns-in_ok-text-in-Some-clause-read
 returns-in_ok-text-in-Some-clause-read g c =
     let named : c.args.asked.now.directory ≡ Some c.in-Some.name.now = sym (ap (λ (p : PlanningView). p.directory) c.asked.view_is)
     ∙ ap (λ d. option_copied d) c.in-Some.is in
     λ start topology trace has.
-    has_directory c.args.limits.now c.args.asked.now start (g.H.Host.part c.args.host.now) (g.H.Host.part c.read_input.new.host)
-    topology trace c.in-Some.name.now c.in_ok-text-in-Some.text has named c.in_ok-text-in-Some.ensures.own c.in_ok-text-in-Some.ensures.others
+    has_directory c.args.limits.now c.args.asked.now (g.H.Host.part c.read_input.new.host) c.in_ok-text-in-Some.text has named
+    c.in_ok-text-in-Some.ensures.own c.in_ok-text-in-Some.ensures.others

@@ -1,4 +1,4 @@
-use Rattle.std.proofs.Common.{◌≡◌, Err, Ok, Some, None, refl, sym, subst, rules}
+use Rattle.std.proofs.Common.{◌≡◌, Err, Ok, Some, None, sym, subst, rules}
 use Rattle.pcap_io.specs.Writing.{pcap_text}
 use Rattle.modelnet.specs.Commands.{Answered, status_of}
 use Rattle.modelnet.specs.declared.status.Status.TheVariants.{Done}
@@ -29,7 +29,8 @@ returns-in-None-clause-answered g c =
     let old = g.H.Host.part c.args.host.now in
     let new = g.H.Host.part c.write_output.new.host in
     let none : c.args.texts.now.screen ≡ None = search rules in
-    subst (λ k. Answered (writing_command (run_writings c.args.out.now c.args.report.now (pcap_text texts.out) texts.report k)) old new Done)
+    subst
+    (λ k. Answered (writing_command (run_writings c.args.out.now c.args.report.now (pcap_text texts.out) texts.report k)) old new Done)
     (sym none)
     (all_without_screen c.args.out.now c.args.report.now (pcap_text texts.out) texts.report old (g.H.Host.part c.write_trace.new.host) new
     (record {
@@ -47,16 +48,15 @@ returns-in-Some-clause-answered g c =
     let new = g.H.Host.part c.write_output-in-Some.new.host in
     let status = status_of c.write_output-in-Some.result in
     let shown : c.args.texts.now.screen ≡ Some c.as_slice-in-Some.result.now = search rules in
-    subst (λ k. Answered (writing_command (run_writings c.args.out.now c.args.report.now (pcap_text texts.out) texts.report k)) old new status)
-    (sym shown)
-    (screen_ends c.args.out.now c.args.report.now (pcap_text texts.out) texts.report c.as_slice-in-Some.result.now
-    c.as_slice-in-Some.result.now old (g.H.Host.part c.write_trace.new.host) (g.H.Host.part c.write_output.new.host) new
-    c.write_output-in-Some.result
-    (record {
+    let written : HasReport c.args.out.now c.args.report.now (pcap_text texts.out) texts.report (Some c.as_slice-in-Some.result.now) old
+    (g.H.Host.part c.write_trace.new.host) (g.H.Host.part c.write_output.new.host) = record {
       so_far = record { own = c.in_ok-write_trace.ensures.own; others = c.in_ok-write_trace.ensures.others };
       bytes = c.as_slice.result.now;
       same = c.as_slice.ensures.lent;
       own = c.in_ok-write_output.ensures.own;
       others = c.in_ok-write_output.ensures.others;
-    })
-    refl c.write_output-in-Some.ensures.own c.write_output-in-Some.ensures.others)
+    } in
+    subst
+    (λ k. Answered (writing_command (run_writings c.args.out.now c.args.report.now (pcap_text texts.out) texts.report k)) old new status)
+    (sym shown)
+    (screen_ends new c.write_output-in-Some.result written c.write_output-in-Some.ensures.own c.write_output-in-Some.ensures.others)

@@ -18,23 +18,20 @@ returns-in_err-base-clause-value c =
 
 pub returns-in_err-parts-2-clause-value : goal.returns-in_err-parts-2-clause-value
 returns-in_err-parts-2-clause-value c =
-    let whole = has_base c.args.word.now c.in_ok-parts.parts.rest c.in_ok-back.back c.pipe_of.result c.in_ok-base.base
-    c.in_ok-parts.ensures c.in_ok-back.was c.pipe_of.ensures.value c.in_ok-base.was in
+    let whole = has_base c.args.word.now c.in_ok-parts.ensures c.in_ok-back.was c.pipe_of.ensures.value c.in_ok-base.was in
     c.from_residual-in_err-parts-2.ensures
     ∙ sym (whole ∙ red_of_few c.in_ok-base.base (colon_parts c.in_ok-back.back.now) c.in_err-parts-2.ensures)
 
 pub returns-then-is_some-clause-value : goal.returns-then-is_some-clause-value
 returns-then-is_some-clause-value c =
-    let whole = has_base c.args.word.now c.in_ok-parts.parts.rest c.in_ok-back.back c.pipe_of.result c.in_ok-base.base
-    c.in_ok-parts.ensures c.in_ok-back.was c.pipe_of.ensures.value c.in_ok-base.was in
+    let whole = has_base c.args.word.now c.in_ok-parts.ensures c.in_ok-back.was c.pipe_of.ensures.value c.in_ok-base.was in
     let ended = has_more c.in_ok-base.base c.in_ok-back.back.now c.in_ok-parts-2.parts.rest c.in_ok-parts-2.ensures
     (sym c.is_some.ensures ∙ c.if-is_some.true) in
     sym (whole ∙ ended)
 
 pub returns-clause-value : goal.returns-clause-value
 returns-clause-value c =
-    let whole = has_base c.args.word.now c.in_ok-parts.parts.rest c.in_ok-back.back c.pipe_of.result c.in_ok-base.base
-    c.in_ok-parts.ensures c.in_ok-back.was c.pipe_of.ensures.value c.in_ok-base.was in
+    let whole = has_base c.args.word.now c.in_ok-parts.ensures c.in_ok-back.was c.pipe_of.ensures.value c.in_ok-base.was in
     let ended = has_all c.in_ok-base.base c.in_ok-back.back.now c.in_ok-parts-2.parts.rest c.in_ok-parts-2.ensures
     (sym c.is_some.ensures ∙ c.if-is_some.false) in
     c.red_of.ensures.value ∙ sym (whole ∙ ended)
