@@ -6,7 +6,6 @@ use Rattle.core_loop.specs.declared.round.Sweep.{Sweep}
 use Rattle.core_loop.specs.declared.round.Trade.{Trade}
 use Rattle.core_loop.specs.declared.round.Trade.TheVariants.{Past, Made, Refused}
 use Rattle.core_loop.specs.CoreView.{CoreView}
-use Rattle.core_loop.specs.WorldState.{IsInStep}
 use Rattle.core_loop.specs.Turns.{OwesPost, OwesTake, RefusedBetween}
 use Rattle.core_loop.specs.Trading.{OnlyTakes, MakesOne, TradeComesTo, IsOwed, Swept, and_trade}
 use Rattle.core_loop.proofs.Rounds.{other-before, trades-same, trades-then, then-moved, refused-then, then-refused}
@@ -96,39 +95,46 @@ module _ {P : Type 0} (keeps : P → P → Type 0) (refuses : P → ℕ → P �
       first None none = (omega arith, owed)
       first (Some other) one = ((let l = one.0 in omega arith), one.1)
 
-  -- one more, whatever came of it
-  pub swept-more : (p : P) (c : CoreView) (q : P) (d : CoreView) (r : P) (e : CoreView) (end : ℕ) (s : Sweep) (t : Trade)
-      → Swept keeps refuses OwesOne p c q d end s
-      → keeps q r → TradeComesTo refuses OwesOne q d r e end t
-      → Swept keeps refuses OwesOne p c r e (end + 1) (and_trade s t end)
-  swept-more p c q d r e end s Past w k t =
-      subst (λ (z : P). Swept keeps refuses OwesOne p c z e (end + 1) s) (sym t.1)
-      (subst (λ (z : CoreView). Swept keeps refuses OwesOne p c q z (end + 1) s) (sym t.0) (past p c q d end s w t.2))
-  swept-more p c q d r e end s Made w k t = made p c q d r e end s w k t
-  swept-more p c q d r e end s Refused w k t =
-      subst (λ (z : CoreView). Swept keeps refuses OwesOne p c r z (end + 1) (and_trade s Refused end)) (sym t.0)
-      (refused p c q d r end s w k t.1 t.2)
+-- one more, whatever came of it
+pub swept-more : {P : Type 0} {keeps : P → P → Type 0} {refuses : P → ℕ → P → Type 0} {OwesOne : CoreView → ℕ → Type 0}
+    {p q r : P} {c d e : CoreView} {end : ℕ} {s : Sweep}
+    → ((p q r : P) → keeps p q → keeps q r → keeps p r) → ((p : P) → keeps p p)
+    → Swept keeps refuses OwesOne p c q d end s → (t : Trade) → keeps q r → TradeComesTo refuses OwesOne q d r e end t
+    → Swept keeps refuses OwesOne p c r e (end + 1) (and_trade s t end)
+swept-more {P} {keeps} {refuses} {OwesOne} {p} {q} {r} {c} {d} {e} {end} {s} trans same w Past k t =
+    subst (λ (z : P). Swept keeps refuses OwesOne p c z e (end + 1) s) (sym t.1)
+    (subst (λ (z : CoreView). Swept keeps refuses OwesOne p c q z (end + 1) s) (sym t.0)
+    (past keeps refuses OwesOne same trans p c q d end s w t.2))
+swept-more {P} {keeps} {refuses} {OwesOne} {p} {q} {r} {c} {d} {e} {end} {s} trans same w Made k t =
+    made keeps refuses OwesOne same trans p c q d r e end s w k t
+swept-more {P} {keeps} {refuses} {OwesOne} {p} {q} {r} {c} {d} {e} {end} {s} trans same w Refused k t =
+    subst (λ (z : CoreView). Swept keeps refuses OwesOne p c r z (end + 1) (and_trade s Refused end)) (sym t.0)
+    (refused keeps refuses OwesOne same trans p c q d r end s w k t.1 t.2)
 
 -- ---- the posts of a round, and then its takes
 
-module _ {P : Type 0} (keeps : P → P → Type 0) (busy empty : P → ℕ → P → Type 0)
-    (keeps_trans : (p q r : P) → keeps p q → keeps q r → keeps p r)
-    (p : P) (c : CoreView) (q : P) (m : CoreView) (r : P) (d : CoreView) (posts takes : Sweep)
-    (a : Swept keeps busy OwesPost p c q m c.setup.cores posts)
-    (b : Swept keeps empty OwesTake q m r d m.setup.cores takes)
-    (only : OnlyTakes m d) (in_step : IsInStep d) where
+-- the posts of a round were swept, and then its takes: at m, with the ports q, the posts are made
+pub record HasTraded {P : Type 0} (keeps : P → P → Type 0) (busy empty : P → ℕ → P → Type 0) (p : P) (c : CoreView) (q : P) (m : CoreView)
+    (r : P) (d : CoreView) (posts takes : Sweep) : Type 0 where
+  pub transitive : (p q r : P) → keeps p q → keeps q r → keeps p r
+  pub posted : Swept keeps busy OwesPost p c q m c.setup.cores posts
+  pub taken : Swept keeps empty OwesTake q m r d m.setup.cores takes
+  pub only : OnlyTakes m d
+
+module _ {P : Type 0} {keeps : P → P → Type 0} {busy empty : P → ℕ → P → Type 0} {p q r : P} {c m d : CoreView} {posts takes : Sweep}
+    (t : HasTraded keeps busy empty p c q m r d posts takes) where
   -- a post that is owed at the end was owed before the takes
   owed-post : (other : ℕ) → OwesPost d other → OwesPost m other
   owed-post other owed =
-      (other-before m d only.setup only.number other owed.0, sym (only.posts other) ∙ (owed.1 ∙ only.windows))
+      (other-before m d t.only.setup t.only.number other owed.0, sym (t.only.posts other) ∙ (owed.1 ∙ t.only.windows))
 
   pub posts-refused : (other : ℕ) → OwesPost d other → RefusedBetween keeps busy p other r
   posts-refused other owed =
       let o = owed-post other owed in
-      let below = (other-before c m a.trades.rises.setup a.trades.rises.number other o.0).0 in
-      refused-then keeps busy keeps_trans p q r other (a.each other below o) b.keeps_to
+      let below = (other-before c m t.posted.trades.rises.setup t.posted.trades.rises.number other o.0).0 in
+      refused-then keeps busy t.transitive p q r other (t.posted.each other below o) t.taken.keeps_to
 
   pub takes-refused : (other : ℕ) → OwesTake d other → RefusedBetween keeps empty p other r
   takes-refused other owed =
-      let below = (other-before m d only.setup only.number other owed.0).0 in
-      then-refused keeps empty keeps_trans p q r other a.keeps_to (b.each other below owed)
+      let below = (other-before m d t.only.setup t.only.number other owed.0).0 in
+      then-refused keeps empty t.transitive p q r other t.posted.keeps_to (t.taken.each other below owed)
