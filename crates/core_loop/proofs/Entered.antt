@@ -374,15 +374,15 @@ rest-is ps i p within is =
     ∙ ap (λ (q : PacketPlan). q ∷ drop (suc i) ps) (sym is)
     ∙ ap (λ (k : ℕ). p ∷ drop k ps) (let e : suc i ≡ i + 1 = omega arith in e)
 
-pub entering-can : (S : SetupView) (core : ℕ) (ps : List PacketPlan) (i : ℕ) (v w : WorkView) (d e : EntrantsView) (p : PacketPlan)
+pub entering-can : {S : SetupView} {core : ℕ} {ps : List PacketPlan} {i : ℕ} {v w : WorkView} {d e : EntrantsView} {p : PacketPlan}
     → IsEntering S core ps i v w d e → i < length ps → p ≡ get_or ps i p → p.core ≡ core → CanEnter p w.heap e
-entering-can S core ps i v w d e p t within is own =
+entering-can {ps = ps} {i = i} {p = p} t within is own =
     t.left.each p (subst (Among p) (sym (rest-is ps i p within is)) (inl refl)) own
 
-pub entering-more : (S : SetupView) (core : ℕ) (ps : List PacketPlan) (i : ℕ) (v w x : WorkView) (d e f : EntrantsView) (p : PacketPlan)
+pub entering-more : {S : SetupView} {core : ℕ} {ps : List PacketPlan} {i : ℕ} {v w x : WorkView} {d e f : EntrantsView} {p : PacketPlan}
     → IsEntering S core ps i v w d e → i < length ps → p ≡ get_or ps i p → Among p S.packets → MayEnter S p w e x f
     → IsEntering S core ps (i + 1) v x d f
-entering-more S core ps i v w x d e f p t within is a m = record {
+entering-more {S} {core} {ps} {i} {v} {w} {x} {d} {e} {f} {p} t within is a m = record {
   same_setup = s.0 ∙ t.same_setup;
   same_number = s.1 ∙ t.same_number;
   left = can-enter-next S core p (drop (i + 1) ps) w x e f a t.same_setup t.same_number m
