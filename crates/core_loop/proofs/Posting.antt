@@ -4,7 +4,6 @@ use Rattle.std.proofs.lemmas.List.{get_or_default}
 use Rattle.std.specs.Vec.{with_item}
 use Rattle.std.proofs.Math.ListN.{length-set}
 use Rattle.std.proofs.lemmas.Bool.{cases_eq}
-use Rattle.journal.specs.IsSetup.{IsSetup}
 use Rattle.parcel.specs.Windows.{window_count}
 use Rattle.parcel.proofs.FewWindows.{few_windows}
 use Rattle.parcel.specs.ParcelView.{ParcelView}

@@ -36,11 +36,11 @@ handing-list {i = i} {now = now} {there = there} h within read same =
     ∙ h.lists i (omega arith)
 
 -- one core more has its parcel, or the core itself its least tick
-pub handing-more : (number : ℕ) (first : Lists) (least : Option ℕ) (ps : List PeerView) (i : ℕ) (qs : List PeerView) (now : Lists)
-    (q : PeerView) (new : Vec Note Global) → IsHanding number first least ps i qs now → i < length ps
+handing-more : {number : ℕ} {first : Lists} {least : Option ℕ} {ps : List PeerView} {i : ℕ} {qs : List PeerView} {now : Lists}
+    {q : PeerView} (new : Vec Note Global) → IsHanding number first least ps i qs now → i < length ps
     → IsHanded number (items_of first) least i (slice_index_or qs i no_peer) q
     → IsHanding number first least ps (i + 1) (set qs i q) (set now i new)
-handing-more number first least ps i qs now q new h within one = record {
+handing-more {number} {first} {least} {ps} {i} {qs} {now} {q} new h within one = record {
   as_many = length-set qs i q ∙ h.as_many;
   as_long = length-set now i new ∙ h.as_long;
   handed = handed;
@@ -116,7 +116,7 @@ pub handing-own : {number : ℕ} {first : Lists} {least : Option ℕ} {ps : List
     → peer ≡ get_or qs i peer → q ≡ record peer { least = least } → (new : Vec Note Global)
     → IsHanding number first least ps (i + 1) (set qs i q) (set now i new)
 handing-own {number} {first} {least} {ps} {i} {qs} {now} {peer} {q} h within own read is new =
-    handing-more number first least ps i qs now q new h within
+    handing-more new h within
     (subst (λ (p : PeerView). IsHanded number (items_of first) least i p q)
     (read ∙ get_or_default qs i peer no_peer (let e = h.as_many in omega (arith, within, e)))
     (subst (IsHanded number (items_of first) least i peer) (sym is) (handed-own number first least i peer own)))
@@ -128,7 +128,7 @@ pub handing-other : {number : ℕ} {first : Lists} {least : Option ℕ} {ps : Li
     → notes ≡ slice_index_or (items_of first) i [] → IsParcelOf notes least r → (new : Vec Note Global)
     → IsHanding number first least ps (i + 1) (set qs i q) (set now i new)
 handing-other {number} {first} {least} {ps} {i} {qs} {now} {peer} {q} {r} {notes} h within other read is list parcel new =
-    handing-more number first least ps i qs now q new h within
+    handing-more new h within
     (subst (λ (p : PeerView). IsHanded number (items_of first) least i p q)
     (read ∙ get_or_default qs i peer no_peer (let e = h.as_many in omega (arith, within, e)))
     (subst (IsHanded number (items_of first) least i peer) (sym is) (handed-other number first least i peer r notes other list parcel)))

@@ -1,4 +1,4 @@
-use Rattle.std.proofs.Common.{ℕ, false, List, inr, refl, sym, ap, ◌∙◌, subst, arith}
+use Rattle.std.proofs.Common.{ℕ, false, List, inr, refl, sym, ◌∙◌, subst, arith}
 use Rattle.core_loop.specs.declared.one_core.Core.TheInside.{Inside}
 use Rattle.core_loop.specs.Inside.{core_view}
 use Rattle.core_loop.specs.WorldState.{CoreStands}

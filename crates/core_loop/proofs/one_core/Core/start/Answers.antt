@@ -1,6 +1,6 @@
 use Rattle.std.proofs.Common.{ℕ, List, length, slice_index_or, sym, ap, ◌∙◌, subst}
 use Rattle.std.proofs.lemmas.List.{length-replicate}
-use Rattle.core_loop.specs.CoreView.{CoreView, PeerView, no_peer}
+use Rattle.core_loop.specs.CoreView.{PeerView, no_peer}
 use Rattle.core_loop.specs.Work.{EntrantsView}
 use Rattle.core_loop.specs.Entering.{EntersAll, CanEnterAll}
 use Rattle.core_loop.specs.Handing.{parts_view}

@@ -1,10 +1,10 @@
-use Rattle.std.proofs.Common.{ℕ, ◌+◌, List, slice_index_or, inr, length-set, sym, ap, ◌∙◌, subst, arith}
+use Rattle.std.proofs.Common.{◌+◌, List, slice_index_or, inr, length-set, sym, ap, ◌∙◌, subst, arith}
 use Rattle.parcel.specs.declared.note.Note.{Note}
 use Rattle.parcel.specs.Parcels.{IsParcel}
 use Rattle.parcel.specs.ParcelView.{ParcelView}
 use Rattle.core_loop.specs.CoreView.{CoreView, PeerView, no_peer, windows_of}
 use Rattle.core_loop.specs.WorldState.{CoreStands}
-use Rattle.core_loop.specs.Inside.{core_view, IsCore}
+use Rattle.core_loop.specs.Inside.{core_view}
 use Rattle.core_loop.specs.Turns.{OwesTake}
 use Rattle.core_loop.specs.Work.{WorkView}
 use Rattle.core_loop.specs.Handing.{CanTakeAll, TakesNotes}
