@@ -98,7 +98,7 @@ module _ {w : WorkView} {ps : List PeerView} (r : IsToHandOut w ps) where
 
   -- the core can take in what it tells itself
   pub own-taken : (bytes : List (List ℕ)) (e : EntrantsView) → IsToSettle bytes w e → CanTakeAll (notes_for w.told w.number) w.heap e
-  own-taken bytes e s = can-own w.setup r.is_setup w.number w.counts.windows w.told r.told_are bytes e s w.heap
+  own-taken bytes e s = can-own r.is_setup r.told_are e s w.heap
 
   counts-are : counts_after w ≡ counts_below w.setup w.number w.counts.windows
   counts-are =
@@ -120,10 +120,10 @@ module _ {w : WorkView} {ps : List PeerView} {e f : EntrantsView} {h : List Due}
 
   same_heap : h ≡ w.heap
   same_heap = taken-settles (notes_for w.told w.number) w.heap h e f o.taken
-      (own-settles w.setup o.ready.is_setup w.number w.counts.windows w.told o.ready.told_are)
+      (own-settles o.ready.is_setup o.ready.told_are)
 
   least-known-now : IsLeastKnown w.setup w.number w.counts.windows (least_of w o.least)
-  least-known-now = least-now w.setup o.ready.is_setup w.number w.counts.windows w.told o.ready.told_are w.heap o.least o.ready.heap_is o.sent
+  least-known-now = least-now o.ready.is_setup o.ready.told_are o.least o.ready.heap_is o.sent
 
   one : (other : ℕ) → other < w.setup.cores
       → IsHanded w.number lists (least_of w o.least) other (slice_index_or ps other no_peer) (slice_index_or qs other no_peer)
@@ -142,7 +142,7 @@ module _ {w : WorkView} {ps : List PeerView} {e f : EntrantsView} {h : List Due}
       let notes = o.sorted other (let c = o.ready.one_peer_each in omega (arith, l, c)) d in (
         p.0,
         p.1,
-        parcel-now w.setup o.ready.is_setup w.number w.counts.windows w.told o.ready.told_are other d (least_of w o.least) least-known-now p.0
+        parcel-now o.ready.is_setup o.ready.told_are d least-known-now
             (subst (λ (ns : List Note). IsParcelOf ns (least_of w o.least) p.0) notes p.2),
       )
 
@@ -155,7 +155,7 @@ module _ {w : WorkView} {ps : List PeerView} {e f : EntrantsView} {h : List Due}
     };
     knows = record {
       heap = subst (IsHeapAt w.setup w.number w.counts.windows (taken_of view)) (sym same_heap)
-          (heap-alike w.setup o.ready.is_setup w.number w.counts.windows (λ other. w.counts.windows) (taken_of view) w.heap takes o.ready.heap_is);
+          (heap-alike o.ready.is_setup takes o.ready.heap_is);
       least = subst (IsLeastKnown w.setup w.number w.counts.windows) (sym ((one w.number o.ready.known).own refl)) least-known-now;
       owed = λ other d at. owed other d.0 d.1;
       told = λ other d at. (let same = takes other d.0 d.1 in
@@ -164,5 +164,5 @@ module _ {w : WorkView} {ps : List PeerView} {e f : EntrantsView} {h : List Due}
     };
     works = record { pipes = o.ready.pipes_have_run.pipes_are; pipe_counts = o.ready.pipes_have_run.counts_are; counts = counts-are o.ready };
     settles =
-        settled-now w.setup o.ready.is_setup w.number w.counts.windows w.told o.ready.told_are bytes (taken_of view) takes w.heap h e f o.taken s;
+        settled-now o.ready.is_setup o.ready.told_are bytes (taken_of view) takes w.heap h e f o.taken s;
   }

@@ -51,7 +51,7 @@ holds-none S bytes core = record {
   released = refl;
 }
 
-module _ (S : SetupView) (is : IsSetup S) (bytes : List (List ℕ)) (long : length bytes ≡ length S.packets) where
+module _ {S : SetupView} {bytes : List (List ℕ)} (is : IsSetup S) (long : length bytes ≡ length S.packets) where
   -- when all are put in, a store has the bytes of the packets that enter at its core
   pub holds-bytes : (core : ℕ) (store : StoreView) → HoldsFirst S bytes core (length S.packets) store → AreBytesOf S core store bytes
   holds-bytes core store h = record { each_has_bytes = long; in_store = in-store }
@@ -81,9 +81,6 @@ module _ (S : SetupView) (is : IsSetup S) (bytes : List (List ℕ)) (long : leng
           (get_or S.packets o.0 d, record { among = Among-index S.packets o.0 d o.2; entered = (o.3 d).0 }, (o.3 d).1)
 
   module _ (i : ℕ) (d : PacketPlan) (payload : List ℕ) (within : i < length S.packets) where
-    abbrev plan : PacketPlan
-    plan = get_or S.packets i d
-
     -- a packet that is put in isn't there yet
     pub not-held : (store : StoreView) → HoldsFirst S bytes (get_or S.packets i d).core i store
         → fin.get store.held (get_or S.packets i d).number ≡ None
@@ -222,11 +219,11 @@ module _ {S : SetupView} {bytes : List (List ℕ)} {stores : List StoreView} {i 
   pub are-stores : i ≡ length S.packets → AreStores S stores
   are-stores done = record {
     one_a_core = k.all.as_many;
-    holds = λ core store at. holds-entrants S k.is_setup bytes k.long core store (holds-all done core store at);
+    holds = λ core store at. holds-entrants k.is_setup k.long core store (holds-all done core store at);
   }
 
   pub are-bytes-in : i ≡ length S.packets → AreBytesIn S stores bytes
-  are-bytes-in done = λ core store at. holds-bytes S k.is_setup bytes k.long core store (holds-all done core store at)
+  are-bytes-in done = λ core store at. holds-bytes k.is_setup k.long core store (holds-all done core store at)
 
 module _ {S : SetupView} {bytes : List (List ℕ)} {stores : List StoreView} {i : ℕ} {plan : PacketPlan} {store : StoreView}
     (n : IsNext S bytes i stores plan store) where
@@ -245,7 +242,7 @@ module _ {S : SetupView} {bytes : List (List ℕ)} {stores : List StoreView} {i 
   pub fresh-at : fin.get store.held plan.number ≡ None
   fresh-at =
       ap (λ (p : PacketPlan). fin.get store.held p.number) n.at
-      ∙ not-held S n.stocked.is_setup bytes n.stocked.long i plan [] n.within store its-store
+      ∙ not-held n.stocked.is_setup n.stocked.long i plan [] n.within store its-store
 
   -- it is put in
   pub all-more : {payload : List ℕ} (new : StoreView) → payload ≡ get_or bytes i payload
@@ -259,7 +256,7 @@ module _ {S : SetupView} {bytes : List (List ℕ)} {stores : List StoreView} {i 
       put : HoldsFirst S bytes plan.core (i + 1) new
       put =
           subst (λ (p : PacketPlan). HoldsFirst S bytes p.core (i + 1) new) (sym n.at)
-          (put-in S n.stocked.is_setup bytes n.stocked.long i plan payload n.within store new its-store
+          (put-in n.stocked.is_setup n.stocked.long i plan payload n.within store new its-store
           (held
           ∙ ap (λ (p : PacketPlan). fin.insert store.held p.number payload) n.at
           ∙ ap (fin.insert store.held (get_or S.packets i plan).number) bytes_are)
@@ -278,5 +275,5 @@ module _ {S : SetupView} {bytes : List (List ℕ)} {stores : List StoreView} {i 
               (subst (HoldsFirst S bytes plan.core (i + 1)) (sym (get_or-set_same stores plan.core new d core-within)) put)
           go (inr other) =
               subst (HoldsFirst S bytes core (i + 1)) (sym (get_or-set_other stores plan.core core new d other))
-              (put-elsewhere S n.stocked.is_setup bytes n.stocked.long i plan payload n.within core (slice_index_or stores core d)
+              (put-elsewhere n.stocked.is_setup n.stocked.long i plan payload n.within core (slice_index_or stores core d)
               (λ e. other (e ∙ ap (λ (p : PacketPlan). p.core) (sym n.at))) (n.stocked.all.each core d low))

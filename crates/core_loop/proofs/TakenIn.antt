@@ -193,8 +193,7 @@ module _ {c : CoreView} {other : ℕ} {p : ParcelView} (t : IsTakingIn c other p
       taken = λ o d. taken o d (cases_eq o other);
     };
     knows = record {
-      heap = heap-takes c.setup t.is_setup c.number (windows_of c) other (taken_of c) (taken_of (taken_then h e)) (takes-one h e) apart at
-          p.notes t.parcel.notes c.heap h s.knows.heap
+      heap = heap-takes t.is_setup (takes-one h e) apart at p.notes t.parcel.notes s.knows.heap
           (taken-canonical p.notes c.heap h (entrants_of c) e (can-parcel bytes s) took s.knows.heap.canonical)
           (taken-due p.notes c.heap h (entrants_of c) e took);
       least = subst (IsLeastKnown c.setup c.number (windows_of c))
@@ -237,16 +236,16 @@ module _ {c : CoreView} {other : ℕ} {p : ParcelView} (t : IsTakingIn c other p
           → IsDecidedBy c.setup c.number (windows_of c) (taken_of c) q ⊎ Among (settle_note c.setup q) p.notes
           → IsDecidedBy c.setup c.number (windows_of c) new q
       decided q n (inl b) =
-          (decided-takes c.setup t.is_setup c.number (windows_of c) other (taken_of c) new (takes-one h e) apart at q).1 (inl b)
+          (decided-takes t.is_setup (takes-one h e) apart at q).1 (inl b)
       decided q n (inr a) =
-          (decided-takes c.setup t.is_setup c.number (windows_of c) other (taken_of c) new (takes-one h e) apart at q).1
+          (decided-takes t.is_setup (takes-one h e) apart at q).1
           (inr (its q n.among ((t.parcel.notes (settle_note c.setup q)).0 a)))
 
       known : (q : PacketPlan) → IsDecidedBy c.setup c.number (windows_of c) new q
           → IsDecidedBy c.setup c.number (windows_of c) (taken_of c) q ⊎ Among (settle_note c.setup q) p.notes
       known q b =
           ⊎_elim (λ o. inl o) (λ d. inr ((t.parcel.notes (settle_note c.setup q)).1 (inr (q, d, refl))))
-          ((decided-takes c.setup t.is_setup c.number (windows_of c) other (taken_of c) new (takes-one h e) apart at q).0 b)
+          ((decided-takes t.is_setup (takes-one h e) apart at q).0 b)
 
       tells : (packet : ℕ) (fate : Fate) → Among (Settle packet fate) p.notes
           → (q : PacketPlan) × Enters c.setup c.number q × (settle_note c.setup q ≡ Settle packet fate)

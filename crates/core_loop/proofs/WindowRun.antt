@@ -54,8 +54,7 @@ module _ (c : CoreView) (w : WorkView) (i : IsWorkOf c w) where
 
       rests : Rests (λ other. windows_of c + 1) of_core
       rests = record {
-        heap_is = heap-alike c.setup i.is_setup c.number (windows_of c) (taken_of c) (λ other. windows_of c + 1) c.heap
-            (λ other l d. sym (t.takes other (l, d))) s.knows.heap;
+        heap_is = heap-alike i.is_setup (λ other l d. sym (t.takes other (l, d))) s.knows.heap;
         pipes_have_run = record { pipes_are = s.works.pipes; counts_are = s.works.pipe_counts };
         visits = ap (λ (x : CoreCounts). x.visits) s.works.counts;
       }

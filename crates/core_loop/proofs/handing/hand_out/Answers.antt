@@ -97,7 +97,7 @@ make_parcels-requires-clause-apart c = λ other within apart.
     let another : other ≢ W.number = λ e. apart (e ∙ sym c.number-number.ensures) in
     let at = goal.at.make_parcels-requires-clause-apart c in
     subst (λ (ns : List Note). AllPairs (λ a b. a ≢ b) (map note_packet ns)) (sym (others_notes at.After-replace-own other within another))
-    (apart-other W.setup ready.is_setup W.number W.counts.windows W.told ready.told_are other another)
+    (apart-other ready.is_setup ready.told_are other another)
 
 -- the work, when what it tells is counted
 counted : (c : After-count_sent) → c.reuse.new.self ≡ record c.args.work.now { told = [] }
