@@ -8,7 +8,7 @@ use Rattle.parcel.specs.Laws.{Starts}
 use Rattle.core_loop.specs.declared.one_core.Core.TheInside.{Inside}
 use Rattle.core_loop.specs.Inside.{core_view, IsCore}
 use Rattle.core_loop.specs.Handing.{IsToHandOut, IsToSettle, parts_view, SameWindows}
-use Rattle.core_loop.specs.CoreView.{CoreView, windows_of, taken_of}
+use Rattle.core_loop.specs.CoreView.{CoreView, windows_of}
 use Rattle.core_loop.specs.WorldState.{CoreStands}
 use Rattle.core_loop.specs.Turns.{HasTradedAll}
 use Rattle.core_loop.specs.Work.{WorkView, Runs, HasRun, IsEnd, StaysAtWork}
