@@ -91,7 +91,8 @@ module _ {S : SetupView} {core : ℕ} {p : PacketPlan} {v u : WorkView} {d b : E
       by None e own n = stays (ap (λ (w : WorkView). w.heap) n.0) (λ f. let clash : None ≡ Some x = sym e ∙ f.1 in cc)
       by (Some y) e own (inl n, f) = (
         (λ a. ⊎_elim
-            (λ (same : y ≡ x). inr (own, e ∙ ap Some same, subst (λ (z : Due). owner_of S (pipe_of S z) ≡ core) same (sym (owner-same y) ∙ n.own ∙ turn.same_number)))
+            (λ (same : y ≡ x).
+            inr (own, e ∙ ap Some same, subst (λ (z : Due). owner_of S (pipe_of S z) ≡ core) same (sym (owner-same y) ∙ n.own ∙ turn.same_number)))
             (λ k. inl k) ((n.members x).0 a)),
         λ k. (n.members x).1 (⊎_elim (λ a. inr a) (λ g. let both : Some y ≡ Some x = sym e ∙ g.1 in let same : y ≡ x = cc in inl same) k),
       )
