@@ -26,14 +26,13 @@ chooses w r end e x heap taken below =
     let h : IsHeapAfter w.setup w.number w.counts.windows r.front r.rest (x ∷ heap) =
     subst (IsHeapAfter w.setup w.number w.counts.windows r.front r.rest) taken r.heap_is in
     let ends : e.0 + lookahead_of w.setup ≡ end = e.2 in
-    let c = chosen w.setup r.split.is_setup w.number w.counts.windows r.front r.rest r.split.whole e.0 e.1 r.split.late x heap h
-    (omega (arith, ends, below)) in
+    let c = chosen r.split e.1 h (omega (arith, ends, below)) in
     record {
       front = r.front;
       rest = r.rest;
       split = r.split;
       chosen = c;
-      heap_is = heap-without w.setup r.split.is_setup w.number w.counts.windows r.front r.rest r.split.whole x heap h c;
+      heap_is = heap-without r.split h c;
       have_left = record {
         pipes_have_run = r.have_left.pipes_have_run;
         visits = r.have_left.visits;
@@ -64,9 +63,9 @@ pub record IsPlannedAt (S : SetupView) (x : Due) : Type 0 where
   pub number : plan.number ≡ x.packet
   pub within : x.hop < length (route_of S x.packet)
 
-pub visit-planned : (S : SetupView) → (core window : ℕ) (front rest : List Visit) → IsSplit S core window front rest → (v : Visit) → Among v rest
+pub visit-planned : {S : SetupView} {core window : ℕ} {front rest : List Visit} → IsSplit S core window front rest → (v : Visit) → Among v rest
     → IsPlannedAt S (due_of v)
-visit-planned S core window front rest split v a =
+visit-planned {S} {front = front} {rest = rest} split v a =
     let j : Among v (journal_of S) = subst (Among v) split.whole (Among-append-right v front rest a) in
     let g = journal-grows S split.is_setup in
     let p = packet-of_visit S split.is_setup (journal_of S) g v j in
@@ -82,4 +81,4 @@ planned w x c =
     let v = c.chosen.visit in
     let a : Among v c.rest =
     subst (Among v) (sym c.chosen.next.split) (Among-append-right v c.chosen.skipped (v ∷ c.chosen.behind) (inl refl)) in
-    subst (IsPlannedAt w.setup) c.chosen.is_due (visit-planned w.setup w.number w.counts.windows c.front c.rest c.split v a)
+    subst (IsPlannedAt w.setup) c.chosen.is_due (visit-planned c.split v a)

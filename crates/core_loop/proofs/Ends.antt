@@ -14,6 +14,7 @@ use Rattle.parcel.specs.Laws.{Starts}
 use Rattle.parcel.specs.Parcels.{IsNote}
 use Rattle.parcel.specs.Told.{Told, told_by}
 use Rattle.mn_base.proofs.Members.{Among-append, Among-append-left, Among-map, Among-from-map, Among-filter, Among-from-filter}
+use Rattle.parcel.specs.DueAt.{IsDueAt, IsDueAfter}
 use Rattle.parcel.proofs.Running.{IsCut, cut-start, due-cut}
 use Rattle.parcel.proofs.Sending.{IsSender, next_parcel}
 use Rattle.core_loop.specs.WorldState.{IsHeapAt, visits_below}
@@ -21,27 +22,28 @@ use Rattle.core_loop.specs.Work.{WorkView, IsHeapAfter, HaveRun, Runs, HasRun, i
 use Rattle.core_loop.proofs.Below.{have_run-front, have_run-below, own_count-below, told-none}
 
 -- what is due, said either way
-after-from_at : (S : SetupView) → IsSetup S → (core windows window : ℕ) (taken : ℕ → ℕ) (front rest : List Visit) (heap : List Due)
-    → IsCut S core windows front rest → ((other : ℕ) → other ≢ core → taken other ≡ window + 1)
-    → IsHeapAt S core windows taken heap → IsHeapAfter S core window front rest heap
-after-from_at S is core windows window taken front rest heap cut all h = record {
-  canonical = h.canonical;
-  members = λ x. (
-    (λ a. let m = (h.members x).0 a in (m.0, (due-cut S is core windows window taken front rest cut all m.0).1 m.1, m.2)),
-    λ m. (h.members x).1 (m.0, (due-cut S is core windows window taken front rest cut all m.0).0 m.1, m.2),
-  );
-}
+module _ {S : SetupView} {core windows window : ℕ} {taken : ℕ → ℕ} {front rest : List Visit} (is : IsSetup S)
+    (cut : IsCut S core windows front rest) (all : (other : ℕ) → other ≢ core → taken other ≡ window + 1) where
+  due-either : (v : Visit) → IsDueAfter S core window front rest v ↔ IsDueAt S core windows taken v
+  due-either v = due-cut S is core windows window taken front rest cut all v
 
-at-from_after : (S : SetupView) → IsSetup S → (core windows window : ℕ) (taken : ℕ → ℕ) (front rest : List Visit) (heap : List Due)
-    → IsCut S core windows front rest → ((other : ℕ) → other ≢ core → taken other ≡ window + 1)
-    → IsHeapAfter S core window front rest heap → IsHeapAt S core windows taken heap
-at-from_after S is core windows window taken front rest heap cut all h = record {
-  canonical = h.canonical;
-  members = λ x. (
-    (λ a. let m = (h.members x).0 a in (m.0, (due-cut S is core windows window taken front rest cut all m.0).0 m.1, m.2)),
-    λ m. (h.members x).1 (m.0, (due-cut S is core windows window taken front rest cut all m.0).1 m.1, m.2),
-  );
-}
+  after-from_at : {heap : List Due} → IsHeapAt S core windows taken heap → IsHeapAfter S core window front rest heap
+  after-from_at h = record {
+    canonical = h.canonical;
+    members = λ x. (
+      (λ a. let m = (h.members x).0 a in (m.0, (due-either m.0).1 m.1, m.2)),
+      λ m. (h.members x).1 (m.0, (due-either m.0).0 m.1, m.2),
+    );
+  }
+
+  at-from_after : {heap : List Due} → IsHeapAfter S core window front rest heap → IsHeapAt S core windows taken heap
+  at-from_after h = record {
+    canonical = h.canonical;
+    members = λ x. (
+      (λ a. let m = (h.members x).0 a in (m.0, (due-either m.0).0 m.1, m.2)),
+      λ m. (h.members x).1 (m.0, (due-either m.0).1 m.1, m.2),
+    );
+  }
 
 -- between windows: what the work of a core has by how many windows it has run
 pub record Rests (taken : ℕ → ℕ) (w : WorkView) : Type 0 where
@@ -64,7 +66,7 @@ begins w is taken r start s all none = go (cut-start w.setup is w.counts.windows
         early = λ u a own. (let l : window_of w.setup u.tick < w.counts.windows = cut.early u a own in omega (arith, l));
         late = cut.late;
       };
-      heap_is = after-from_at w.setup is w.number w.counts.windows w.counts.windows taken c.0 c.1 w.heap cut all r.heap_is;
+      heap_is = after-from_at is cut all r.heap_is;
       have_left = record {
         pipes_have_run = have_run-front w.setup w.number w.counts.windows c.0 c.1 cut w.pipes r.pipes_have_run;
         visits = r.visits ∙ own_count-below w.setup w.number w.counts.windows c.0 c.1 cut;
@@ -88,8 +90,7 @@ pub ends : (w : WorkView) (h : HasRun w) (taken : ℕ → ℕ) → ((other : ℕ
     → Rests taken (record w { counts = record w.counts { windows = w.counts.windows + 1 } })
 ends w h taken all = record {
   heap_is =
-      at-from_after w.setup h.runs.split.is_setup w.number (w.counts.windows + 1) w.counts.windows taken h.runs.front h.runs.rest w.heap
-      (end-cut w h) all h.runs.heap_is;
+      at-from_after h.runs.split.is_setup (end-cut w h) all h.runs.heap_is;
   pipes_have_run =
       have_run-below w.setup w.number (w.counts.windows + 1) h.runs.front h.runs.rest (end-cut w h) w.pipes
       h.runs.have_left.pipes_have_run;

@@ -42,11 +42,16 @@ told_first S core (Some x) = if owner_of S (pipe_of S x) == core then None else 
 abbrev pub told_entry : SetupView → ℕ → PacketPlan → Option Told
 told_entry S core p = if p.core == core then told_first S core (entry S p) else None
 
-module _ (S : SetupView) (core : ℕ) (p : PacketPlan) (v u : WorkView) (d b : EntrantsView) (m : MayEnter S p v d u b)
-    (vs : v.setup ≡ S) (vn : v.number ≡ core) where
+-- a packet has its turn at a core: work and packets were v and d before it, and are u and b then
+pub record HasItsTurn (S : SetupView) (core : ℕ) (p : PacketPlan) (v u : WorkView) (d b : EntrantsView) : Type 0 where
+  pub may : MayEnter S p v d u b
+  pub same_setup : v.setup ≡ S
+  pub same_number : v.number ≡ core
+
+module _ {S : SetupView} {core : ℕ} {p : PacketPlan} {v u : WorkView} {d b : EntrantsView} (turn : HasItsTurn S core p v u d b) where
   -- setup, number, pipes and counts stay
   pub enter-same : (u.setup ≡ v.setup) × (u.number ≡ v.number) × (u.pipes ≡ v.pipes) × (u.counts ≡ v.counts)
-  enter-same = go m
+  enter-same = go turn.may
     where
       all : u ≡ v → (u.setup ≡ v.setup) × (u.number ≡ v.number) × (u.pipes ≡ v.pipes) × (u.counts ≡ v.counts)
       all e = (ap (λ (w : WorkView). w.setup) e, ap (λ (w : WorkView). w.number) e, ap (λ (w : WorkView). w.pipes) e, ap (λ (w : WorkView). w.counts) e)
@@ -71,10 +76,10 @@ module _ (S : SetupView) (core : ℕ) (p : PacketPlan) (v u : WorkView) (d b : E
       go (inr i) = all i.1
 
   owner-same : (x : Due) → owner_of v.setup (pipe_of v.setup x) ≡ owner_of S (pipe_of S x)
-  owner-same x = ap (λ (s : SetupView). owner_of s (pipe_of s x)) vs
+  owner-same x = ap (λ (s : SetupView). owner_of s (pipe_of s x)) turn.same_setup
 
   enter-due : (x : Due) → Among x u.heap ↔ (Among x v.heap ⊎ IsFirstHere S core p x)
-  enter-due x = go m
+  enter-due x = go turn.may
     where
       stays : u.heap ≡ v.heap → (IsFirstHere S core p x → ⊥) → Among x u.heap ↔ (Among x v.heap ⊎ IsFirstHere S core p x)
       stays e never = (
@@ -86,21 +91,22 @@ module _ (S : SetupView) (core : ℕ) (p : PacketPlan) (v u : WorkView) (d b : E
       by None e own n = stays (ap (λ (w : WorkView). w.heap) n.0) (λ f. let clash : None ≡ Some x = sym e ∙ f.1 in cc)
       by (Some y) e own (inl n, f) = (
         (λ a. ⊎_elim
-            (λ (same : y ≡ x). inr (own, e ∙ ap Some same, subst (λ (z : Due). owner_of S (pipe_of S z) ≡ core) same (sym (owner-same y) ∙ n.own ∙ vn)))
+            (λ (same : y ≡ x).
+            inr (own, e ∙ ap Some same, subst (λ (z : Due). owner_of S (pipe_of S z) ≡ core) same (sym (owner-same y) ∙ n.own ∙ turn.same_number)))
             (λ k. inl k) ((n.members x).0 a)),
         λ k. (n.members x).1 (⊎_elim (λ a. inr a) (λ g. let both : Some y ≡ Some x = sym e ∙ g.1 in let same : y ≡ x = cc in inl same) k),
       )
       by (Some y) e own (inr n, f) =
           stays (ap (λ (w : WorkView). w.heap) n.tells)
           (λ g. let both : Some y ≡ Some x = sym e ∙ g.1 in let same : y ≡ x = cc in
-          n.other (owner-same y ∙ subst (λ (z : Due). owner_of S (pipe_of S z) ≡ core) (sym same) g.2 ∙ sym vn))
+          n.other (owner-same y ∙ subst (λ (z : Due). owner_of S (pipe_of S z) ≡ core) (sym same) g.2 ∙ sym turn.same_number))
 
       go : MayEnter S p v d u b → Among x u.heap ↔ (Among x v.heap ⊎ IsFirstHere S core p x)
-      go (inl i) = by (entry S p) refl (i.0 ∙ vn) i.1
-      go (inr i) = stays (ap (λ (w : WorkView). w.heap) i.1) (λ f. i.0 (f.0 ∙ sym vn))
+      go (inl i) = by (entry S p) refl (i.0 ∙ turn.same_number) i.1
+      go (inr i) = stays (ap (λ (w : WorkView). w.heap) i.1) (λ f. i.0 (f.0 ∙ sym turn.same_number))
 
   enter-told : u.told ≡ v.told ++ cons_option (told_entry S core p) []
-  enter-told = go m
+  enter-told = go turn.may
     where
       stays : (o : Option Told) → told_entry S core p ≡ o → o ≡ None → u.told ≡ v.told → u.told ≡ v.told ++ cons_option (told_entry S core p) []
       stays o e n t = t ∙ sym (append-nil v.told) ∙ ap (λ (q : Option Told). v.told ++ cons_option q []) (sym (e ∙ n))
@@ -113,24 +119,24 @@ module _ (S : SetupView) (core : ℕ) (p : PacketPlan) (v u : WorkView) (d b : E
       by (Some y) e own (inl n, f) =
           stays None
           (own-test own ∙ ap (told_first S core) e
-          ∙ ap (λ (c : Bool). cond c None (Some (told_due S y))) (eq-eqb _ _ (sym (owner-same y) ∙ n.own ∙ vn)))
+          ∙ ap (λ (c : Bool). cond c None (Some (told_due S y))) (eq-eqb _ _ (sym (owner-same y) ∙ n.own ∙ turn.same_number)))
           refl (ap (λ (w : WorkView). w.told) n.same)
       by (Some y) e own (inr n, f) =
           ap (λ (w : WorkView). w.told) n.tells
-          ∙ ap (λ (s : SetupView). v.told ++ told_due s y ∷ []) vs
+          ∙ ap (λ (s : SetupView). v.told ++ told_due s y ∷ []) turn.same_setup
           ∙ ap (λ (q : Option Told). v.told ++ cons_option q [])
           (sym (own-test own ∙ ap (told_first S core) e
-          ∙ ap (λ (c : Bool). cond c None (Some (told_due S y))) (ne_eqb _ _ (λ same. n.other (owner-same y ∙ same ∙ sym vn)))))
+          ∙ ap (λ (c : Bool). cond c None (Some (told_due S y))) (ne_eqb _ _ (λ same. n.other (owner-same y ∙ same ∙ sym turn.same_number)))))
 
       go : MayEnter S p v d u b → u.told ≡ v.told ++ cons_option (told_entry S core p) []
-      go (inl i) = by (entry S p) refl (i.0 ∙ vn) i.1
+      go (inl i) = by (entry S p) refl (i.0 ∙ turn.same_number) i.1
       go (inr i) =
-          stays None (ap (λ (c : Bool). cond c (told_first S core (entry S p)) None) (ne_eqb p.core core (λ e. i.0 (e ∙ sym vn)))) refl
+          stays None (ap (λ (c : Bool). cond c (told_first S core (entry S p)) None) (ne_eqb p.core core (λ e. i.0 (e ∙ sym turn.same_number)))) refl
           (ap (λ (w : WorkView). w.told) i.1)
 
   -- what is due stays in canonical order
   enter-canonical : Among p S.packets → CanEnterAll core (p ∷ []) v.heap d → IsCanonical v.heap → IsCanonical u.heap
-  enter-canonical a can c = go m
+  enter-canonical a can c = go turn.may
     where
       by : (o : Option Due) → entry S p ≡ o → p.core ≡ core → EntersBy p o v d u b → IsCanonical u.heap
       by None e own n = subst IsCanonical (sym (ap (λ (w : WorkView). w.heap) n.0)) c
@@ -141,12 +147,12 @@ module _ (S : SetupView) (core : ℕ) (p : PacketPlan) (v u : WorkView) (d b : E
       by (Some y) e own (inr n, f) = subst IsCanonical (sym (ap (λ (w : WorkView). w.heap) n.tells)) c
 
       go : MayEnter S p v d u b → IsCanonical u.heap
-      go (inl i) = by (entry S p) refl (i.0 ∙ vn) i.1
+      go (inl i) = by (entry S p) refl (i.0 ∙ turn.same_number) i.1
       go (inr i) = subst IsCanonical (sym (ap (λ (w : WorkView). w.heap) i.1)) c
 
   -- another packet still can enter
   enter-can : Among p S.packets → (q : PacketPlan) → p.number ≢ q.number → CanEnter q v.heap d → CanEnter q u.heap b
-  enter-can a q differ can = record { alone = alone; held = held m }
+  enter-can a q differ can = record { alone = alone; held = held turn.may }
     where
       alone : HasNoneOf q.number u.heap
       alone x k =
@@ -165,11 +171,11 @@ module _ (S : SetupView) (core : ℕ) (p : PacketPlan) (v u : WorkView) (d b : E
 
 -- ---- all packets
 
-pub can-enter-next : (S : SetupView) (core : ℕ) (p : PacketPlan) (ps : List PacketPlan) (v u : WorkView) (d b : EntrantsView)
-    → Among p S.packets → v.setup ≡ S → v.number ≡ core → MayEnter S p v d u b → CanEnterAll core (p ∷ ps) v.heap d → CanEnterAll core ps u.heap b
-can-enter-next S core p ps v u d b a vs vn m can = record {
+can-enter-next : {S : SetupView} {core : ℕ} {p : PacketPlan} {ps : List PacketPlan} {v u : WorkView} {d b : EntrantsView}
+    → HasItsTurn S core p v u d b → Among p S.packets → CanEnterAll core (p ∷ ps) v.heap d → CanEnterAll core ps u.heap b
+can-enter-next {p = p} {ps = ps} turn a can = record {
   each = λ q k own.
-      enter-can S core p v u d b m vs vn a q (before-rest (λ (x y : PacketPlan). x.number ≢ y.number) p ps can.apart q k)
+      enter-can turn a q (before-rest (λ (x y : PacketPlan). x.number ≢ y.number) p ps can.apart q k)
       (can.each q (inr k) own);
   apart = rest-ordered (λ (x y : PacketPlan). x.number ≢ y.number) p ps can.apart;
 }
@@ -180,7 +186,8 @@ module _ (S : SetupView) (core : ℕ) where
   enters-same [] v w d e t vs vn =
       (ap (λ (x : WorkView). x.setup) t.0, ap (λ (x : WorkView). x.number) t.0, ap (λ (x : WorkView). x.pipes) t.0, ap (λ (x : WorkView). x.counts) t.0)
   enters-same (p ∷ ps) v w d e t vs vn =
-      let s = enter-same S core p v t.0 d t.1 t.2 vs vn in
+      let turn : HasItsTurn S core p v t.0 d t.1 = record { may = t.2; same_setup = vs; same_number = vn } in
+      let s = enter-same turn in
       let r = enters-same ps t.0 w t.1 e t.3 (s.0 ∙ vs) (s.1 ∙ vn) in
       (r.0 ∙ s.0, r.1 ∙ s.1, r.2 ∙ s.2, r.3 ∙ s.3)
 
@@ -192,9 +199,10 @@ module _ (S : SetupView) (core : ℕ) where
     λ k. ⊎_elim (λ a. subst (λ (y : WorkView). Among x y.heap) (sym t.0) a) (λ f. absurd f.1) k,
   )
   enters-due (p ∷ ps) v w d e t vs vn x =
-      let s = enter-same S core p v t.0 d t.1 t.2 vs vn in
+      let turn : HasItsTurn S core p v t.0 d t.1 = record { may = t.2; same_setup = vs; same_number = vn } in
+      let s = enter-same turn in
       let r = enters-due ps t.0 w t.1 e t.3 (s.0 ∙ vs) (s.1 ∙ vn) x in
-      let n = enter-due S core p v t.0 d t.1 t.2 vs vn x in
+      let n = enter-due turn x in
       (there r n, back r n)
     where
       there : Among x w.heap ↔ (Among x t.0.heap ⊎ ((q : PacketPlan) × Among q ps × IsFirstHere S core q x))
@@ -213,10 +221,11 @@ module _ (S : SetupView) (core : ℕ) where
       → ((p : PacketPlan) → Among p ps → Among p S.packets) → CanEnterAll core ps v.heap d → IsCanonical v.heap → IsCanonical w.heap
   enters-canonical [] v w d e t vs vn known can c = subst (λ (y : WorkView). IsCanonical y.heap) (sym t.0) c
   enters-canonical (p ∷ ps) v w d e t vs vn known can c =
-      let s = enter-same S core p v t.0 d t.1 t.2 vs vn in
+      let turn : HasItsTurn S core p v t.0 d t.1 = record { may = t.2; same_setup = vs; same_number = vn } in
+      let s = enter-same turn in
       enters-canonical ps t.0 w t.1 e t.3 (s.0 ∙ vs) (s.1 ∙ vn) (λ q a. known q (inr a))
-      (can-enter-next S core p ps v t.0 d t.1 (known p (inl refl)) vs vn t.2 can)
-      (enter-canonical S core p v t.0 d t.1 t.2 vs vn (known p (inl refl)) one c)
+      (can-enter-next turn (known p (inl refl)) can)
+      (enter-canonical turn (known p (inl refl)) one c)
     where
       one : CanEnterAll core (p ∷ []) v.heap d
       one = record {
@@ -229,9 +238,10 @@ module _ (S : SetupView) (core : ℕ) where
       → w.told ≡ v.told ++ filter_map (told_entry S core) ps
   enters-told [] v w d e t vs vn = ap (λ (y : WorkView). y.told) t.0 ∙ sym (append-nil v.told)
   enters-told (p ∷ ps) v w d e t vs vn =
-      let s = enter-same S core p v t.0 d t.1 t.2 vs vn in
+      let turn : HasItsTurn S core p v t.0 d t.1 = record { may = t.2; same_setup = vs; same_number = vn } in
+      let s = enter-same turn in
       enters-told ps t.0 w t.1 e t.3 (s.0 ∙ vs) (s.1 ∙ vn)
-      ∙ ap (λ (l : List Told). l ++ filter_map (told_entry S core) ps) (enter-told S core p v t.0 d t.1 t.2 vs vn)
+      ∙ ap (λ (l : List Told). l ++ filter_map (told_entry S core) ps) (enter-told turn)
       ∙ append_assoc v.told (cons_option (told_entry S core p) []) (filter_map (told_entry S core) ps)
       ∙ ap (λ (l : List Told). v.told ++ l) (joined (told_entry S core p))
     where
@@ -289,7 +299,8 @@ module _ (S : SetupView) (core : ℕ) where
       (λ q n. ((λ k. inl k), λ k. ⊎_elim (λ y. y) (λ f. absurd f.0) k))
       (subst (λ (z : EntrantsView). AreSettled S bytes core D z.settled z.store) (sym t.1) a)
   enters-settled fates bytes D (p ∷ ps) v w d e t vs vn known a =
-      let s = enter-same S core p v t.0 d t.1 t.2 vs vn in
+      let turn : HasItsTurn S core p v t.0 d t.1 = record { may = t.2; same_setup = vs; same_number = vn } in
+      let s = enter-same turn in
       settled-as S bytes core (λ q. (D q ⊎ StaysHere (p ∷ []) q) ⊎ StaysHere ps q) (λ q. D q ⊎ StaysHere (p ∷ ps) q) e.settled e.store
       (λ q n. (there q, back q))
       (enters-settled fates bytes (λ q. D q ⊎ StaysHere (p ∷ []) q) ps t.0 w t.1 e t.3 (s.0 ∙ vs) (s.1 ∙ vn) (λ q k. known q (inr k)) (one t.2))
@@ -374,18 +385,18 @@ rest-is ps i p within is =
     ∙ ap (λ (q : PacketPlan). q ∷ drop (suc i) ps) (sym is)
     ∙ ap (λ (k : ℕ). p ∷ drop k ps) (let e : suc i ≡ i + 1 = omega arith in e)
 
-pub entering-can : (S : SetupView) (core : ℕ) (ps : List PacketPlan) (i : ℕ) (v w : WorkView) (d e : EntrantsView) (p : PacketPlan)
+pub entering-can : {S : SetupView} {core : ℕ} {ps : List PacketPlan} {i : ℕ} {v w : WorkView} {d e : EntrantsView} {p : PacketPlan}
     → IsEntering S core ps i v w d e → i < length ps → p ≡ get_or ps i p → p.core ≡ core → CanEnter p w.heap e
-entering-can S core ps i v w d e p t within is own =
+entering-can {ps = ps} {i = i} {p = p} t within is own =
     t.left.each p (subst (Among p) (sym (rest-is ps i p within is)) (inl refl)) own
 
-pub entering-more : (S : SetupView) (core : ℕ) (ps : List PacketPlan) (i : ℕ) (v w x : WorkView) (d e f : EntrantsView) (p : PacketPlan)
+pub entering-more : {S : SetupView} {core : ℕ} {ps : List PacketPlan} {i : ℕ} {v w x : WorkView} {d e f : EntrantsView} {p : PacketPlan}
     → IsEntering S core ps i v w d e → i < length ps → p ≡ get_or ps i p → Among p S.packets → MayEnter S p w e x f
     → IsEntering S core ps (i + 1) v x d f
-entering-more S core ps i v w x d e f p t within is a m = record {
+entering-more {S} {core} {ps} {i} {v} {w} {x} {d} {e} {f} {p} t within is a m = record {
   same_setup = s.0 ∙ t.same_setup;
   same_number = s.1 ∙ t.same_number;
-  left = can-enter-next S core p (drop (i + 1) ps) w x e f a t.same_setup t.same_number m
+  left = can-enter-next turn a
       (subst (λ (l : List PacketPlan). CanEnterAll core l w.heap e) rest t.left);
   done = λ y g more. t.done y g (subst (λ (l : List PacketPlan). EntersAll S l w e y g) (sym rest) (x, f, m, more));
 }
@@ -393,8 +404,11 @@ entering-more S core ps i v w x d e f p t within is a m = record {
     rest : drop i ps ≡ p ∷ drop (i + 1) ps
     rest = rest-is ps i p within is
 
+    turn : HasItsTurn S core p w x e f
+    turn = record { may = m; same_setup = t.same_setup; same_number = t.same_number }
+
     s : (x.setup ≡ w.setup) × (x.number ≡ w.number) × (x.pipes ≡ w.pipes) × (x.counts ≡ w.counts)
-    s = enter-same S core p w x e f m t.same_setup t.same_number
+    s = enter-same turn
 
 pub entering-ends : (S : SetupView) (core : ℕ) (ps : List PacketPlan) (i : ℕ) (v w : WorkView) (d e : EntrantsView)
     → IsEntering S core ps i v w d e → length ps ≤ i → EntersAll S ps v d w e

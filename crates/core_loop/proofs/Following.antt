@@ -33,7 +33,7 @@ predecessor-of S u w e =
     let t = and_parts (u.packet == w.packet) (u.hop + 1 == w.hop) f.1 in
     record { among = f.0; packet = eqb-true u.packet w.packet t.0; hop = sym (eqb-true (u.hop + 1) w.hop t.1) }
 
-module _ (S : SetupView) (core window : ℕ) (front rest : List Visit) (split : IsSplit S core window front rest) (x : Due)
+module _ {S : SetupView} {core window : ℕ} {front rest : List Visit} {x : Due} (split : IsSplit S core window front rest)
     (c : IsChosen S core window rest x) where
   is : IsSetup S
   is = split.is_setup
@@ -78,11 +78,17 @@ module _ (S : SetupView) (core window : ℕ) (front rest : List Visit) (split : 
   abbrev pub Follows : Due → Type 0
   Follows y = (next_hop S c.visit ≡ Some y) × (owner_of S (pipe_of S y) ≡ core)
 
+  -- what is due once the visit is made: what was due but for it, and what follows it
+  due-now : (w : Visit) → IsDueAfter S core window (front ++ (c.skipped ++ c.visit ∷ [])) c.behind w
+      ↔ ((IsDueAfter S core window front rest w × (c.visit ≢ w))
+      ⊎ (Among w (journal_of S) × (owner_of S w.pipe ≡ core) × (predecessor S w ≡ Some c.visit)))
+  due-now w = due-then S is core window front rest split.whole c.skipped c.visit c.behind c.next w
+
   -- the heap, with what follows the visit, if it is the core's own
-  pub heap-then : (old new : List Due) → IsHeapWithout S core window front rest c.visit old → IsCanonical new
+  pub heap-then : {old new : List Due} → IsHeapWithout S core window front rest c.visit old → IsCanonical new
       → ((y : Due) → Among y new ↔ (Follows y ⊎ Among y old))
       → IsHeapAfter S core window (front ++ (c.skipped ++ c.visit ∷ [])) c.behind new
-  heap-then old new h canonical members = record { canonical = canonical; members = λ y. (there y, back y) }
+  heap-then {old} {new} h canonical members = record { canonical = canonical; members = λ y. (there y, back y) }
     where
       there : (y : Due) → Among y new
           → (w : Visit) × IsDueAfter S core window (front ++ (c.skipped ++ c.visit ∷ [])) c.behind w × (due_of w ≡ y)
@@ -91,7 +97,7 @@ module _ (S : SetupView) (core window : ℕ) (front rest : List Visit) (split : 
           before : Among y old → (w : Visit) × IsDueAfter S core window (front ++ (c.skipped ++ c.visit ∷ [])) c.behind w × (due_of w ≡ y)
           before o =
               let m = (h.members y).0 o in
-              (m.0, (due-then S is core window front rest split.whole c.skipped c.visit c.behind c.next m.0).1 (inl (m.1.0, m.1.1)), m.2)
+              (m.0, (due-now m.0).1 (inl (m.1.0, m.1.1)), m.2)
 
           follows : Follows y → (w : Visit) × IsDueAfter S core window (front ++ (c.skipped ++ c.visit ∷ [])) c.behind w × (due_of w ≡ y)
           follows f =
@@ -99,7 +105,7 @@ module _ (S : SetupView) (core window : ℕ) (front rest : List Visit) (split : 
               let p = follower-predecessor S is c.visit n.0 v-among (f.0 ∙ ap Some (sym n.2)) in
               let at : n.0.pipe ≡ pipe_of S y = visit-pipe S (journal_of S) n.0 (meets S is).made n.1 ∙ ap (pipe_of S) n.2 in (
                 n.0,
-                (due-then S is core window front rest split.whole c.skipped c.visit c.behind c.next n.0).1
+                (due-now n.0).1
                     (inr (n.1, ap (owner_of S) at ∙ f.1, predecessor-is S is c.visit n.0 p)),
                 n.2,
               )
@@ -108,7 +114,7 @@ module _ (S : SetupView) (core window : ℕ) (front rest : List Visit) (split : 
           → Among y new
       back y m =
           (members y).1
-          (⊎_elim before follows ((due-then S is core window front rest split.whole c.skipped c.visit c.behind c.next m.0).0 m.1))
+          (⊎_elim before follows ((due-now m.0).0 m.1))
         where
           before : IsDueAfter S core window front rest m.0 × (c.visit ≢ m.0) → Follows y ⊎ Among y old
           before b = inr ((h.members y).1 (m.0, (b.0, b.1), m.2))

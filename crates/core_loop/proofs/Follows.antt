@@ -63,8 +63,8 @@ module _ (v : WorkView) (x : Due) (step : Step) (m : Makes v x step) where
   runs-with heap told canonical members tells = record {
     front = m.front ++ (m.chosen.skipped ++ m.chosen.visit ∷ []);
     rest = m.chosen.behind;
-    split = split-then v.setup v.number v.counts.windows m.front m.rest m.split x m.chosen;
-    heap_is = heap-then v.setup v.number v.counts.windows m.front m.rest m.split x m.chosen v.heap heap m.heap_is canonical members;
+    split = split-then m.split m.chosen;
+    heap_is = heap-then m.split m.chosen m.heap_is canonical members;
     have_left = record { pipes_have_run = m.pipes_have_run; visits = m.visits; told_is = tells };
   }
 
@@ -96,7 +96,7 @@ module _ (v : WorkView) (x : Due) (step : Step) (m : Makes v x step) where
           ∙ ap not (eq-eqb _ _ h.own)
 
       still : v.told ≡ told_in v.setup v.number v.counts.windows (m.front ++ (m.chosen.skipped ++ m.chosen.visit ∷ []))
-      still = m.told_is ∙ sym (told-still v.setup v.number v.counts.windows m.front m.rest m.split x m.chosen left)
+      still = m.told_is ∙ sym (told-still m.split m.chosen left)
 
   -- nothing that is due next is due here
   elsewhere-members : ((y : Due) → next_hop v.setup m.chosen.visit ≡ Some y → owner_of v.setup (pipe_of v.setup y) ≢ v.number)
@@ -109,7 +109,7 @@ module _ (v : WorkView) (x : Due) (step : Step) (m : Makes v x step) where
   tells-more t e left =
       ap (λ (l : List Told). l ++ t ∷ []) m.told_is
       ∙ ap (λ (s : Told). told_in v.setup v.number v.counts.windows m.front ++ s ∷ []) (sym e)
-      ∙ sym (told-then v.setup v.number v.counts.windows m.front m.rest m.split x m.chosen (ap (is_left_to_tell v.number) e ∙ left))
+      ∙ sym (told-then m.split m.chosen (ap (is_left_to_tell v.number) e ∙ left))
 
   elsewhere : (y : Due) (w : WorkView) → Some y ≡ hop_after v.setup x.packet x.hop step → IsDueElsewhere v y w → Runs w
   elsewhere y w e h = subst Runs (sym h.tells)
@@ -141,7 +141,7 @@ module _ (v : WorkView) (x : Due) (step : Step) (m : Makes v x step) where
       pipe_is : m.chosen.visit.pipe ≡ pipe
       pipe_is =
           visit-pipe v.setup _ m.chosen.visit (meets v.setup m.split.is_setup).made
-          (v-among v.setup v.number v.counts.windows m.front m.rest m.split x m.chosen)
+          (v-among m.split m.chosen)
           ∙ ap (pipe_of v.setup) m.chosen.is_due
           ∙ sym at
 

@@ -26,7 +26,32 @@ use Rattle.core_loop.proofs.Counted.{arrivals-step, settles-step}
 use Rattle.core_loop.proofs.Tellings.{heap-alike, own-settles, can-own, settled-now, least-now, parcel-now}
 use Rattle.core_loop.proofs.Takes.{taken-settles}
 
-module _ (w : WorkView) (ps : List PeerView) (r : IsToHandOut w ps) where
+-- the least tick of which a core knows, where this is the least that it told
+abbrev pub least_of : WorkView → Option ℕ → Option ℕ
+least_of w least = earlier_of (option_map (λ due. due.tick) (slice_get w.heap 0)) least
+
+-- so many notes are told others
+abbrev pub counts_after : WorkView → CoreCounts
+counts_after w = record w.counts {
+  arrivals = w.counts.arrivals + length (filter (is_told_arrival w.number) w.told);
+  settles = w.counts.settles + length (filter (is_told_settle w.number) w.told);
+}
+
+-- the work when all is handed out, where this is due then
+abbrev pub work_after : WorkView → List Due → WorkView
+work_after w h = record w { told = []; heap = h; counts = counts_after w }
+
+-- what was told is handed out: each list to the core that it is for, and the core's own notes are taken in
+pub record HasHandedOut (w : WorkView) (ps : List PeerView) (e f : EntrantsView) (h : List Due) (lists : List (List Note))
+    (qs : List PeerView) : Type 0 where
+  pub ready : IsToHandOut w ps
+  pub taken : TakesNotes (notes_for w.told w.number) w.heap e h f
+  pub least : Option ℕ
+  pub sent : IsLeastBy (IsToldTick w.number w.told) least
+  pub sorted : (other : ℕ) → other < length ps → other ≢ w.number → slice_index_or lists other [] ≡ notes_for w.told other
+  pub handed : AreHanded w.number lists (least_of w least) ps qs
+
+module _ {w : WorkView} {ps : List PeerView} (r : IsToHandOut w ps) where
   -- who is told something is a core
   pub receivers-named : All (λ t. t.receiver < length ps) w.told
   receivers-named i d within = below (slice_index_or w.told i d) (Among-index w.told i d within)
@@ -73,20 +98,9 @@ module _ (w : WorkView) (ps : List PeerView) (r : IsToHandOut w ps) where
 
   -- the core can take in what it tells itself
   pub own-taken : (bytes : List (List ℕ)) (e : EntrantsView) → IsToSettle bytes w e → CanTakeAll (notes_for w.told w.number) w.heap e
-  own-taken bytes e s = can-own w.setup r.is_setup w.number w.counts.windows w.told r.told_are bytes e s w.heap
+  own-taken bytes e s = can-own r.is_setup r.told_are e s w.heap
 
-  -- the least tick of which it knows
-  abbrev pub least_of : Option ℕ → Option ℕ
-  least_of least = earlier_of (option_map (λ due. due.tick) (slice_get w.heap 0)) least
-
-  -- so many notes are told others
-  abbrev pub counts_after : CoreCounts
-  counts_after = record w.counts {
-    arrivals = w.counts.arrivals + length (filter (is_told_arrival w.number) w.told);
-    settles = w.counts.settles + length (filter (is_told_settle w.number) w.told);
-  }
-
-  counts-are : counts_after ≡ counts_below w.setup w.number w.counts.windows
+  counts-are : counts_after w ≡ counts_below w.setup w.number w.counts.windows
   counts-are =
       ap (λ (c : CoreCounts). record c {
         arrivals = c.arrivals + length (filter (is_told_arrival w.number) w.told);
@@ -99,62 +113,56 @@ module _ (w : WorkView) (ps : List PeerView) (r : IsToHandOut w ps) where
       ∙ ap (λ (s : ℕ). record (counts_below w.setup w.number w.counts.windows) { settles = s })
       (sym (settles-step w.setup r.is_setup w.number w.counts.windows w.told r.told_are))
 
-  module _ (e f : EntrantsView) (h : List Due) (taken : TakesNotes (notes_for w.told w.number) w.heap e h f) (least : Option ℕ)
-      (sent : IsLeastBy (IsToldTick w.number w.told) least) (lists : List (List Note)) (qs : List PeerView)
-      (sorted : (other : ℕ) → other < length ps → other ≢ w.number → slice_index_or lists other [] ≡ notes_for w.told other)
-      (handed : AreHanded w.number lists (least_of least) ps qs) where
-    -- the work when all is handed out
-    abbrev pub work_after : WorkView
-    work_after = record w { told = []; heap = h; counts = counts_after }
+module _ {w : WorkView} {ps : List PeerView} {e f : EntrantsView} {h : List Due} {lists : List (List Note)} {qs : List PeerView}
+    (o : HasHandedOut w ps e f h lists qs) where
+  abbrev view : CoreView
+  view = parts_view (work_after w h) f qs
 
-    abbrev view : CoreView
-    view = parts_view work_after f qs
+  same_heap : h ≡ w.heap
+  same_heap = taken-settles (notes_for w.told w.number) w.heap h e f o.taken
+      (own-settles o.ready.is_setup o.ready.told_are)
 
-    same_heap : h ≡ w.heap
-    same_heap = taken-settles (notes_for w.told w.number) w.heap h e f taken
-        (own-settles w.setup r.is_setup w.number w.counts.windows w.told r.told_are)
+  least-known-now : IsLeastKnown w.setup w.number w.counts.windows (least_of w o.least)
+  least-known-now = least-now o.ready.is_setup o.ready.told_are o.least o.ready.heap_is o.sent
 
-    least-known-now : IsLeastKnown w.setup w.number w.counts.windows (least_of least)
-    least-known-now = least-now w.setup r.is_setup w.number w.counts.windows w.told r.told_are w.heap least r.heap_is sent
+  one : (other : ℕ) → other < w.setup.cores
+      → IsHanded w.number lists (least_of w o.least) other (slice_index_or ps other no_peer) (slice_index_or qs other no_peer)
+  one other l = o.handed.each other (let c = o.ready.one_peer_each in omega (arith, l, c))
 
-    one : (other : ℕ) → other < w.setup.cores
-        → IsHanded w.number lists (least_of least) other (slice_index_or ps other no_peer) (slice_index_or qs other no_peer)
-    one other l = handed.each other (let c = r.one_peer_each in omega (arith, l, c))
+  posted : (other : ℕ) → other < w.setup.cores → other ≢ w.number → (slice_index_or qs other no_peer).posted ≡ w.counts.windows
+  posted other l d = (one other l).posted ∙ o.ready.posted other l d
 
-    posted : (other : ℕ) → other < w.setup.cores → other ≢ w.number → (slice_index_or qs other no_peer).posted ≡ w.counts.windows
-    posted other l d = (one other l).posted ∙ r.posted other l d
+  takes : (other : ℕ) → other < w.setup.cores → other ≢ w.number → (slice_index_or qs other no_peer).taken ≡ w.counts.windows
+  takes other l d = (one other l).taken ∙ o.ready.taken other l d
 
-    takes : (other : ℕ) → other < w.setup.cores → other ≢ w.number → (slice_index_or qs other no_peer).taken ≡ w.counts.windows
-    takes other l d = (one other l).taken ∙ r.taken other l d
+  owed : (other : ℕ) → other < w.setup.cores → other ≢ w.number
+      → (p : ParcelView) × ((slice_index_or qs other no_peer).owed ≡ Some p) × IsParcel w.setup w.number other w.counts.windows p
+  owed other l d =
+      let p = (one other l).owed d in
+      let notes = o.sorted other (let c = o.ready.one_peer_each in omega (arith, l, c)) d in (
+        p.0,
+        p.1,
+        parcel-now o.ready.is_setup o.ready.told_are d least-known-now
+            (subst (λ (ns : List Note). IsParcelOf ns (least_of w o.least) p.0) notes p.2),
+      )
 
-    owed : (other : ℕ) → other < w.setup.cores → other ≢ w.number
-        → (p : ParcelView) × ((slice_index_or qs other no_peer).owed ≡ Some p) × IsParcel w.setup w.number other w.counts.windows p
-    owed other l d =
-        let p = (one other l).owed d in
-        let notes = sorted other (let c = r.one_peer_each in omega (arith, l, c)) d in (
-          p.0,
-          p.1,
-          parcel-now w.setup r.is_setup w.number w.counts.windows w.told r.told_are other d (least_of least) least-known-now p.0
-              (subst (λ (ns : List Note). IsParcelOf ns (least_of least) p.0) notes p.2),
-        )
-
-    pub stands-now : (bytes : List (List ℕ)) → IsToSettle bytes w e → CoreStands bytes (parts_view work_after f qs)
-    stands-now bytes s = record {
-      in_step = record {
-        within = r.within;
-        posted = λ other o. inl (posted other o.0 o.1);
-        taken = λ other o. inl (takes other o.0 o.1);
-      };
-      knows = record {
-        heap = subst (IsHeapAt w.setup w.number w.counts.windows (taken_of view)) (sym same_heap)
-            (heap-alike w.setup r.is_setup w.number w.counts.windows (λ other. w.counts.windows) (taken_of view) w.heap takes r.heap_is);
-        least = subst (IsLeastKnown w.setup w.number w.counts.windows) (sym ((one w.number r.known).own refl)) least-known-now;
-        owed = λ other o at. owed other o.0 o.1;
-        told = λ other o at. (let same = takes other o.0 o.1 in
-            let more : (slice_index_or qs other no_peer).taken ≡ w.counts.windows + 1 = at in
-            absurd (omega (arith, same, more)));
-      };
-      works = record { pipes = r.pipes_have_run.pipes_are; pipe_counts = r.pipes_have_run.counts_are; counts = counts-are };
-      settles =
-          settled-now w.setup r.is_setup w.number w.counts.windows w.told r.told_are bytes (taken_of view) takes w.heap h e f taken s;
-    }
+  pub stands-now : (bytes : List (List ℕ)) → IsToSettle bytes w e → CoreStands bytes (parts_view (work_after w h) f qs)
+  stands-now bytes s = record {
+    in_step = record {
+      within = o.ready.within;
+      posted = λ other d. inl (posted other d.0 d.1);
+      taken = λ other d. inl (takes other d.0 d.1);
+    };
+    knows = record {
+      heap = subst (IsHeapAt w.setup w.number w.counts.windows (taken_of view)) (sym same_heap)
+          (heap-alike o.ready.is_setup takes o.ready.heap_is);
+      least = subst (IsLeastKnown w.setup w.number w.counts.windows) (sym ((one w.number o.ready.known).own refl)) least-known-now;
+      owed = λ other d at. owed other d.0 d.1;
+      told = λ other d at. (let same = takes other d.0 d.1 in
+          let more : (slice_index_or qs other no_peer).taken ≡ w.counts.windows + 1 = at in
+          absurd (omega (arith, same, more)));
+    };
+    works = record { pipes = o.ready.pipes_have_run.pipes_are; pipe_counts = o.ready.pipes_have_run.counts_are; counts = counts-are o.ready };
+    settles =
+        settled-now o.ready.is_setup o.ready.told_are bytes (taken_of view) takes w.heap h e f o.taken s;
+  }

@@ -49,7 +49,7 @@ module _ (w : WorkView) (x : Due) (c : Chooses w x) where
       ∙ c.split.whole
 
   among : Among c.chosen.visit (journal_of w.setup)
-  among = v-among w.setup w.number w.counts.windows c.front c.rest c.split x c.chosen
+  among = v-among c.split c.chosen
 
   at_pipe : c.chosen.visit.pipe ≡ pipe_of w.setup x
   at_pipe = visit-pipe w.setup (journal_of w.setup) c.chosen.visit (meets w.setup is).made among ∙ ap (pipe_of w.setup) c.chosen.is_due

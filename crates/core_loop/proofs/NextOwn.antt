@@ -1,5 +1,5 @@
 -- In a window, what is taken out of the heap first is the next visit that the core makes.
-use Rattle.std.proofs.Common.{◌≡◌, ◌≢◌, ◌⊎◌, inl, inr, ⊎_elim, ℕ, ◌+◌, ◌<◌, ◌≤◌, List, [], ◌∷◌, ◌++◌, refl, sym, ap, ◌∙◌, subst, arith}
+use Rattle.std.proofs.Common.{◌≡◌, ◌≢◌, ◌⊎◌, inl, inr, ⊎_elim, ℕ, ◌+◌, ◌<◌, ◌≤◌, List, [], ◌∷◌, refl, sym, ap, ◌∙◌, subst, arith}
 use Rattle.std.proofs.lemmas.Bool.{cases_eq}
 use Rattle.std.specs.Prelude.{◌↔◌}
 use Rattle.mn_base.specs.Among.{Among}
@@ -7,7 +7,6 @@ use Rattle.mn_base.specs.declared.due.Due.{Due}
 use Rattle.mn_base.specs.Canonical.{Before}
 use Rattle.journal.specs.declared.visit.Visit.{Visit}
 use Rattle.journal.specs.SetupView.{SetupView}
-use Rattle.journal.specs.IsSetup.{IsSetup}
 use Rattle.journal.specs.Hops.{due_of}
 use Rattle.journal.specs.Journal.{journal_of}
 use Rattle.parcel.specs.Owners.{owner_of}
@@ -16,7 +15,7 @@ use Rattle.parcel.specs.Windows.{window_of}
 use Rattle.parcel.specs.Laws.{Starts}
 use Rattle.parcel.specs.DueAt.{IsDueAfter}
 use Rattle.deadline_heap.specs.Canonical.{HasNoneOf}
-use Rattle.core_loop.specs.Work.{IsHeapAfter, IsHeapWithout, IsChosen}
+use Rattle.core_loop.specs.Work.{IsSplit, IsHeapAfter, IsHeapWithout, IsChosen}
 use Rattle.pipe.proofs.CanonicalOrder.{before-asymmetric, before-tick}
 use Rattle.journal.proofs.Ends.{hops_differ}
 use Rattle.mn_base.proofs.Members.{Among-append-right}
@@ -52,16 +51,14 @@ first_own S core (u ∷ rest) w a own = go (cases_eq (owner_of S u.pipe) core) (
             others x (inl e) same = other (ap (λ (y : Visit). owner_of S y.pipe) e ∙ same)
             others x (inr b) same = n.3.others x b same
 
-module _ (S : SetupView) (is : IsSetup S) (core window : ℕ) (front rest : List Visit) (whole : front ++ rest ≡ journal_of S) where
+module _ {S : SetupView} {core window : ℕ} {front rest : List Visit} (split : IsSplit S core window front rest) where
   in-journal : (v : Visit) → Among v rest → Among v (journal_of S)
-  in-journal v a = subst (Among v) whole (Among-append-right v front rest a)
+  in-journal v a = subst (Among v) split.whole (Among-append-right v front rest a)
 
-  pub chosen : (start : ℕ) → Starts S window start
-      → ((u : Visit) → Among u rest → owner_of S u.pipe ≡ core → window ≤ window_of S u.tick)
-      → (x : Due) (heap : List Due) → IsHeapAfter S core window front rest (x ∷ heap)
+  pub chosen : {start : ℕ} → Starts S window start → {x : Due} {heap : List Due} → IsHeapAfter S core window front rest (x ∷ heap)
       → x.tick < start + lookahead_of S
       → IsChosen S core window rest x
-  chosen start s late x heap h below = go ((h.members x).0 (inl refl))
+  chosen {start} s {x} {heap} h below = go ((h.members x).0 (inl refl))
     where
       go : (w : Visit) × IsDueAfter S core window front rest w × (due_of w ≡ x) → IsChosen S core window rest x
       go m = with_next (first_own S core rest m.0 m.1.among m.1.owner)
@@ -73,7 +70,7 @@ module _ (S : SetupView) (is : IsSetup S) (core window : ℕ) (front rest : List
               v-among = subst (Among n.1) (sym n.3.split) (Among-append-right n.1 n.0 (n.1 ∷ n.2) (inl refl))
 
               first : (n.1 ≡ m.0) ⊎ Before (due_of n.1) (due_of m.0)
-              first = next-first S is core window front rest whole n.0 n.1 n.2 n.3 m.0 m.1
+              first = next-first S split.is_setup core window front rest split.whole n.0 n.1 n.2 n.3 m.0 m.1
 
               tick : m.0.tick ≡ x.tick
               tick = ap (λ (d : Due). d.tick) m.2
@@ -83,16 +80,16 @@ module _ (S : SetupView) (is : IsSetup S) (core window : ℕ) (front rest : List
                   (λ b. before-tick (due_of n.1) (due_of m.0) b) first
 
               at : window_of S m.0.tick ≡ window
-              at = window-here S is window start m.0 s (in-journal m.0 m.1.among) (late m.0 m.1.among m.1.owner) (omega (arith, tick, below))
+              at = window-here S split.is_setup window start m.0 s (in-journal m.0 m.1.among) (split.late m.0 m.1.among m.1.owner) (omega (arith, tick, below))
 
               here : window_of S n.1.tick ≡ window
               here =
                   let up : window_of S n.1.tick ≤ window_of S m.0.tick = window-rises S n.1.tick m.0.tick by in
-                  let low : window ≤ window_of S n.1.tick = late n.1 v-among n.3.owner in
+                  let low : window ≤ window_of S n.1.tick = split.late n.1 v-among n.3.owner in
                   omega (arith, up, low, at)
 
               in-heap : (x ≡ due_of n.1) ⊎ Among (due_of n.1) heap
-              in-heap = (h.members (due_of n.1)).1 (n.1, next-due S is core window front rest whole n.0 n.1 n.2 n.3 here, refl)
+              in-heap = (h.members (due_of n.1)).1 (n.1, next-due S split.is_setup core window front rest split.whole n.0 n.1 n.2 n.3 here, refl)
 
               due : due_of n.1 ≡ x
               due = ⊎_elim (λ e. ap due_of e ∙ m.2) earlier first
@@ -105,9 +102,9 @@ module _ (S : SetupView) (is : IsSetup S) (core window : ℕ) (front rest : List
                           absurd (before-asymmetric x (due_of n.1) (h.canonical.0 (due_of n.1) a) (subst (Before (due_of n.1)) m.2 b))
 
   -- with it out of the heap, what is due and isn't it is left there
-  left : (x : Due) (heap : List Due) → IsHeapAfter S core window front rest (x ∷ heap) → (c : IsChosen S core window rest x)
+  left : {x : Due} {heap : List Due} → IsHeapAfter S core window front rest (x ∷ heap) → (c : IsChosen S core window rest x)
       → (y : Due) → Among y heap ↔ ((w : Visit) × (IsDueAfter S core window front rest w × (c.visit ≢ w)) × (due_of w ≡ y))
-  left x heap h c y = (there, back)
+  left {x} {heap} h c y = (there, back)
     where
       v-among : Among c.visit rest
       v-among = subst (Among c.visit) (sym c.next.split) (Among-append-right c.visit c.skipped (c.visit ∷ c.behind) (inl refl))
@@ -128,14 +125,14 @@ module _ (S : SetupView) (is : IsSetup S) (core window : ℕ) (front rest : List
           same : x ≡ y → Among y heap
           same e =
               let d : due_of c.visit ≡ due_of m.0 = c.is_due ∙ e ∙ sym m.2 in
-              absurd (m.1.1 (hops_differ S is c.visit m.0 (in-journal c.visit v-among) (in-journal m.0 m.1.0.among)
+              absurd (m.1.1 (hops_differ S split.is_setup c.visit m.0 (in-journal c.visit v-among) (in-journal m.0 m.1.0.among)
               (ap (λ (z : Due). z.packet) d) (ap (λ (z : Due). z.hop) d)))
 
   -- so that is what the heap has now
-  pub heap-without : (x : Due) (heap : List Due) → IsHeapAfter S core window front rest (x ∷ heap) → (c : IsChosen S core window rest x)
+  pub heap-without : {x : Due} {heap : List Due} → IsHeapAfter S core window front rest (x ∷ heap) → (c : IsChosen S core window rest x)
       → IsHeapWithout S core window front rest c.visit heap
-  heap-without x heap h c = record {
+  heap-without {x} {heap} h c = record {
     canonical = h.canonical.2;
     alone = subst (λ (packet : ℕ). HasNoneOf packet heap) (sym (ap (λ (d : Due). d.packet) c.is_due)) h.canonical.1;
-    members = left x heap h c;
+    members = left h c;
   }

@@ -29,13 +29,21 @@ get-set (z ∷ xs) (suc k) (suc i) x y e = go (get-set xs k i x y e)
     go (inl f) = inl (ap suc f.0, f.1)
     go (inr f) = inr f
 
-module _ (S : SetupView) (core : ℕ) (J : List Visit) (x : Due) (pipe : ℕ) (own : OwnPipesView) (index_of : List ℕ)
-    (comes : ComesTo S core J x pipe own) (table : AreIndexed index_of own.pipes own.counts) where
-  abbrev Place : Type 0
-  Place =
-      (index : ℕ) × (m : SetupPipeView) × (slice_get (own_pipes S core) index ≡ Some pipe) × (slice_get own.pipes index ≡ Some m)
-      × IsPipe S J pipe m
+-- a visit comes to an own pipe, and k is the index at which the table has this pipe
+pub record Finds (S : SetupView) (core : ℕ) (J : List Visit) (x : Due) (pipe : ℕ) (own : OwnPipesView) (index_of : List ℕ) (k : ℕ) : Type 0 where
+  pub comes : ComesTo S core J x pipe own
+  pub table : AreIndexed index_of own.pipes own.counts
+  pub read : k ≡ get_or index_of pipe k
 
+-- the pipe found there, once, and new after it, has made the visit with this step
+pub record HasMade (S : SetupView) (core : ℕ) (J : List Visit) (x : Due) (pipe : ℕ) (own : OwnPipesView) (index_of : List ℕ) (k : ℕ)
+    (old new : SetupPipeView) (step : Step) : Type 0 where
+  pub found : Finds S core J x pipe own index_of k
+  pub old_is : old ≡ get_or own.pipes k old
+  pub decided : Decided S x pipe old new step
+
+module _ {S : SetupView} {core : ℕ} {J : List Visit} {x : Due} {pipe : ℕ} {own : OwnPipesView} {index_of : List ℕ}
+    (comes : ComesTo S core J x pipe own) (table : AreIndexed index_of own.pipes own.counts) where
   place : (index : ℕ) × (m : SetupPipeView) × (slice_get (own_pipes S core) index ≡ Some pipe) × (slice_get own.pipes index ≡ Some m)
       × IsPipe S J pipe m
   place = own-index S core J own pipe comes.have_run comes.owner comes.named
@@ -46,68 +54,82 @@ module _ (S : SetupView) (core : ℕ) (J : List Visit) (x : Due) (pipe : ℕ) (o
   pub table-within : pipe < length index_of
   table-within = slice_get_within index_of pipe place.0 table-at
 
-  module _ (k : ℕ) (read : k ≡ get_or index_of pipe k) where
-    index-is : k ≡ place.0
-    index-is = read ∙ get_or_from_slice_get index_of pipe place.0 k table-at
+-- the same by what contracts see of the pipes, now
+pub finds : {S : SetupView} {core : ℕ} {J : List Visit} {x : Due} {pipe : ℕ} {own now : OwnPipesView} {index_of : List ℕ} {k : ℕ}
+    → own ≡ now → AreIndexed index_of own.pipes own.counts → k ≡ get_or index_of pipe k → ComesTo S core J x pipe now
+    → Finds S core J x pipe own index_of k
+finds {S} {core} {J} {x} {pipe} is table read comes = record {
+  comes = subst (ComesTo S core J x pipe) (sym is) comes;
+  table = table;
+  read = read;
+}
 
-    at : slice_get own.pipes k ≡ Some place.1
-    at = ap (slice_get own.pipes) index-is ∙ place.3
+module _ {S : SetupView} {core : ℕ} {J : List Visit} {x : Due} {pipe : ℕ} {own : OwnPipesView} {index_of : List ℕ} {k : ℕ}
+    (f : Finds S core J x pipe own index_of k) where
+  index-is : k ≡ (place f.comes f.table).0
+  index-is = f.read ∙ get_or_from_slice_get index_of pipe (place f.comes f.table).0 k (table-at f.comes f.table)
 
-    pub pipe-within : k < length own.pipes
-    pipe-within = slice_get_within own.pipes k place.1 at
+  at : slice_get own.pipes k ≡ Some (place f.comes f.table).1
+  at = ap (slice_get own.pipes) index-is ∙ (place f.comes f.table).3
 
-    pub count-within : k < length own.counts
-    count-within = let l : k < length own.pipes = pipe-within in omega (arith, l, table.count)
+  pub pipe-within : k < length own.pipes
+  pipe-within = slice_get_within own.pipes k (place f.comes f.table).1 at
 
-    -- what stands there is the pipe
-    pub in-hand : (m : SetupPipeView) → m ≡ get_or own.pipes k m → IsPipe S J pipe m
-    in-hand m is = subst (IsPipe S J pipe) (sym (is ∙ get_or_from_slice_get own.pipes k place.1 m at)) place.4
+  pub count-within : k < length own.counts
+  count-within = let l : k < length own.pipes = pipe-within in omega (arith, l, f.table.count)
 
-    counts-at : (c : PipeCounts) → c ≡ get_or own.counts k c → c ≡ counts_of J pipe
-    counts-at c is = is ∙ get_or_from_slice_get own.counts k (counts_of J pipe) c
-        (ap (λ (l : List PipeCounts). slice_get l k) comes.have_run.counts_are
-        ∙ slice_get-map (counts_of J) (own_pipes S core) k
-        ∙ ap (λ (i : ℕ). option_map (counts_of J) (slice_get (own_pipes S core) i)) index-is
-        ∙ ap (option_map (counts_of J)) place.2)
+  -- what stands there is the pipe
+  pub in-hand : {m : SetupPipeView} → m ≡ get_or own.pipes k m → IsPipe S J pipe m
+  in-hand {m} is =
+      subst (IsPipe S J pipe) (sym (is ∙ get_or_from_slice_get own.pipes k (place f.comes f.table).1 m at)) (place f.comes f.table).4
 
-    -- and what stands there are its counts, each below the most
-    pub few-counted : (c : PipeCounts) → c ≡ get_or own.counts k c → IsBelow c PACKETS_MAX
-    few-counted c is = subst (λ (d : PipeCounts). IsBelow d PACKETS_MAX) (sym (counts-at c is)) (counts-below S J pipe PACKETS_MAX comes.few)
+  counts-at : {c : PipeCounts} → c ≡ get_or own.counts k c → c ≡ counts_of J pipe
+  counts-at {c} is = is ∙ get_or_from_slice_get own.counts k (counts_of J pipe) c
+      (ap (λ (l : List PipeCounts). slice_get l k) f.comes.have_run.counts_are
+      ∙ slice_get-map (counts_of J) (own_pipes S core) k
+      ∙ ap (λ (i : ℕ). option_map (counts_of J) (slice_get (own_pipes S core) i)) index-is
+      ∙ ap (option_map (counts_of J)) (place f.comes f.table).2)
 
-    module _ (old new : SetupPipeView) (step : Step) (is : old ≡ get_or own.pipes k old) (decided : Decided S x pipe old new step) where
-      -- the visit that is made
-      pub visited : made x pipe step ≡ visit_of S J x
-      visited = decided-visit decided J (in-hand old is)
+  -- and what stands there are its counts, each below the most
+  pub few-counted : {c : PipeCounts} → c ≡ get_or own.counts k c → IsBelow c PACKETS_MAX
+  few-counted is = subst (λ (d : PipeCounts). IsBelow d PACKETS_MAX) (sym (counts-at is)) (counts-below S J pipe PACKETS_MAX f.comes.few)
 
-      -- the table still leads to all pipes
-      pub table-after : (c : PipeCounts) → AreIndexed index_of (slice_set own.pipes k new) (slice_set own.counts k c)
-      table-after c = record {
-        count = length-set own.counts k c ∙ table.count ∙ sym (length-set own.pipes k new);
-        indexed = indexed;
-      }
+module _ {S : SetupView} {core : ℕ} {J : List Visit} {x : Due} {pipe : ℕ} {own : OwnPipesView} {index_of : List ℕ} {k : ℕ}
+    {old new : SetupPipeView} {step : Step} (m : HasMade S core J x pipe own index_of k old new step) where
+  -- the visit that is made
+  pub visited : made x pipe step ≡ visit_of S J x
+  visited = decided-visit m.decided J (in-hand m.found m.old_is)
+
+  -- the table still leads to all pipes
+  pub table-after : (c : PipeCounts) → AreIndexed index_of (slice_set own.pipes k new) (slice_set own.counts k c)
+  table-after c = record {
+    count = length-set own.counts k c ∙ m.found.table.count ∙ sym (length-set own.pipes k new);
+    indexed = indexed;
+  }
+    where
+      indexed : (index : ℕ) (p : SetupPipeView) → slice_get (slice_set own.pipes k new) index ≡ Some p
+          → slice_get index_of p.number ≡ Some index
+      indexed index p e = go (get-set own.pipes k index new p e)
         where
-          indexed : (index : ℕ) (m : SetupPipeView) → slice_get (slice_set own.pipes k new) index ≡ Some m
-              → slice_get index_of m.number ≡ Some index
-          indexed index m e = go (get-set own.pipes k index new m e)
-            where
-              number : new.number ≡ pipe
-              number = decided.number ∙ (in-hand old is).number
+          number : new.number ≡ pipe
+          number = m.decided.number ∙ (in-hand m.found m.old_is).number
 
-              go : ((index ≡ k) × (new ≡ m)) ⊎ (slice_get own.pipes index ≡ Some m) → slice_get index_of m.number ≡ Some index
-              go (inl here) =
-                  ap (slice_get index_of) (ap (λ (p : SetupPipeView). p.number) (sym here.1) ∙ number)
-                  ∙ table-at
-                  ∙ ap Some (sym index-is ∙ sym here.0)
-              go (inr old_at) = table.indexed index m old_at
+          go : ((index ≡ k) × (new ≡ p)) ⊎ (slice_get own.pipes index ≡ Some p) → slice_get index_of p.number ≡ Some index
+          go (inl here) =
+              ap (slice_get index_of) (ap (λ (q : SetupPipeView). q.number) (sym here.1) ∙ number)
+              ∙ table-at m.found.comes m.found.table
+              ∙ ap Some (sym (index-is m.found) ∙ sym here.0)
+          go (inr old_at) = m.found.table.indexed index p old_at
 
-      -- the pipes and the counts with this visit
-      pub run : (c d : PipeCounts) → c ≡ get_or own.counts k c → d ≡ counted c step
-          → HaveRun S core (J ++ visit_of S J x ∷ []) (record { pipes = slice_set own.pipes k new; counts = slice_set own.counts k d })
-      run c d at_c is_d =
-          subst (λ (e : PipeCounts).
-          HaveRun S core (J ++ visit_of S J x ∷ []) (record { pipes = slice_set own.pipes k new; counts = slice_set own.counts k e }))
-          (ap (λ (e : PipeCounts). counted e step) (sym (counts-at c at_c)) ∙ sym is_d)
-          (subst (λ (v : Visit). HaveRun S core (J ++ v ∷ [])
-          (record { pipes = slice_set own.pipes k new; counts = slice_set own.counts k (counted (counts_of J pipe) step) })) visited
-          (have_run-push S core J own (made x pipe step) k new comes.have_run
-          (ap (slice_get (own_pipes S core)) index-is ∙ place.2) (decided-pipe decided J (in-hand old is))))
+  -- the pipes and the counts with this visit
+  pub run : {c d : PipeCounts} → c ≡ get_or own.counts k c → d ≡ counted c step
+      → HaveRun S core (J ++ visit_of S J x ∷ []) (record { pipes = slice_set own.pipes k new; counts = slice_set own.counts k d })
+  run {c} {d} at_c is_d =
+      subst (λ (e : PipeCounts).
+      HaveRun S core (J ++ visit_of S J x ∷ []) (record { pipes = slice_set own.pipes k new; counts = slice_set own.counts k e }))
+      (ap (λ (e : PipeCounts). counted e step) (sym (counts-at m.found at_c)) ∙ sym is_d)
+      (subst (λ (v : Visit). HaveRun S core (J ++ v ∷ [])
+      (record { pipes = slice_set own.pipes k new; counts = slice_set own.counts k (counted (counts_of J pipe) step) })) visited
+      (have_run-push S core J own (made x pipe step) k new m.found.comes.have_run
+      (ap (slice_get (own_pipes S core)) (index-is m.found) ∙ (place m.found.comes m.found.table).2)
+      (decided-pipe m.decided J (in-hand m.found m.old_is))))

@@ -4,7 +4,6 @@ use Rattle.std.proofs.lemmas.List.{get_or_default}
 use Rattle.std.specs.Vec.{with_item}
 use Rattle.std.proofs.Math.ListN.{length-set}
 use Rattle.std.proofs.lemmas.Bool.{cases_eq}
-use Rattle.journal.specs.IsSetup.{IsSetup}
 use Rattle.parcel.specs.Windows.{window_count}
 use Rattle.parcel.proofs.FewWindows.{few_windows}
 use Rattle.parcel.specs.ParcelView.{ParcelView}
@@ -127,62 +126,68 @@ module _ (c : CoreView) (other : ℕ) (each : length c.peers ≡ c.setup.cores) 
 
 -- ---- the fields of a core that posts
 
--- the number of a parcel that is owed is far from the end of its type
-pub post-fits : (c : CoreView) (other : ℕ) → IsSetup c.setup → (bytes : List (List ℕ)) → CoreStands bytes c → OwesPost c other
-    → posted_of c other < 2 ^ 28
-post-fits c other is bytes s owed =
-    let few : window_count c.setup < 2 ^ 28 = few_windows c.setup is in
-    let within : windows_of c ≤ window_count c.setup = s.in_step.within in
-    let e = owed.1 in
-    omega arith
+-- a core that owes a post, by its fields i and by what contracts see of it, c
+pub record IsPosting (i : Inside) (c : CoreView) (other : ℕ) : Type 0 where
+  pub core : IsCore i
+  pub view_is : core_view i ≡ c
+  pub works : c.failed ≡ false
+  pub owed : OwesPost c other
 
--- what is found at the place of a core is what is kept of it
-pub found-peer : (i : Inside) (c : CoreView) (other : ℕ) (q : PeerView) → IsCore i → core_view i ≡ c → other < c.setup.cores
-    → q ≡ slice_index_or i.peers.items other q
-    → q ≡ peer_at (core_view i) other
-found-peer i c other q is view below e =
-    let cores : i.setup.now.cores ≡ c.setup.cores = ap (λ (z : CoreView). z.setup.cores) view in
-    let each = is.one_peer_each in
-    e ∙ get_or_default i.peers.items other q no_peer (omega (arith, below, cores, each))
+module _ {i : Inside} {c : CoreView} {other : ℕ} (t : IsPosting i c other) where
+  its-works : i.failed ≡ false
+  its-works = ap (λ (z : CoreView). z.failed) t.view_is ∙ t.works
 
-pub found-fits : (i : Inside) (c : CoreView) (other : ℕ) (q : PeerView) → IsCore i → core_view i ≡ c → c.failed ≡ false → OwesPost c other
-    → q ≡ slice_index_or i.peers.items other q
-    → q.posted < 2 ^ 28
-found-fits i c other q is view works owed e =
-    let b = is.stands (ap (λ (z : CoreView). z.failed) view ∙ works) in
-    let at = found-peer i c other q is view owed.0.0 e in
-    subst (λ (p : PeerView). p.posted < 2 ^ 28) (sym at)
-    (post-fits (core_view i) other is.is_setup b.0 b.1 (subst (λ (z : CoreView). OwesPost z other) (sym view) owed))
+  its-owed : OwesPost (core_view i) other
+  its-owed = subst (λ (z : CoreView). OwesPost z other) (sym t.view_is) t.owed
+
+  -- the number of a parcel that is owed is far from the end of its type
+  post-fits : posted_of (core_view i) other < 2 ^ 28
+  post-fits =
+      let few : window_count i.setup.now < 2 ^ 28 = few_windows i.setup.now t.core.is_setup in
+      let within : windows_of (core_view i) ≤ window_count i.setup.now = (t.core.stands its-works).1.in_step.within in
+      let e : posted_of (core_view i) other ≡ windows_of (core_view i) = its-owed.1 in
+      omega (arith, few, within, e)
+
+  -- what is found at the place of a core is what is kept of it
+  pub found-peer : {q : PeerView} → q ≡ slice_index_or i.peers.items other q → q ≡ peer_at (core_view i) other
+  found-peer {q} e =
+      let each = t.core.one_peer_each in
+      let below : other < i.setup.now.cores = its-owed.0.0 in
+      e ∙ get_or_default i.peers.items other q no_peer (omega (arith, below, each))
+
+  pub found-fits : {q : PeerView} → q ≡ slice_index_or i.peers.items other q → q.posted < 2 ^ 28
+  found-fits e = subst (λ (p : PeerView). p.posted < 2 ^ 28) (sym (found-peer e)) post-fits
+
+  -- what is kept of that core, once it was posted to
+  abbrev pub peer_then : PeerView
+  peer_then = record (peer_at (core_view i) other) { posted = posted_of (core_view i) other + 1; owed = None }
+
+  -- the fields keep what is true of all cores
+  pub posted-core : (p : PeerView) → p ≡ peer_then → IsCore (record i { peers = with_item i.peers other p })
+  posted-core p e =
+      subst (λ (z : PeerView). IsCore (record i { peers = with_item i.peers other z })) (sym e) (record {
+        is_setup = t.core.is_setup;
+        lookahead = t.core.lookahead;
+        same_setup = t.core.same_setup;
+        same_number = t.core.same_number;
+        known = t.core.known;
+        one_peer_each = length-set i.peers.items other _ ∙ t.core.one_peer_each;
+        none_told = t.core.none_told;
+        stands = λ f. (let b = t.core.stands its-works in
+            (b.0, post-stands (core_view i) other t.core.one_peer_each its-owed b.0 b.1));
+      })
+
+  -- and the core has made the post
+  pub posted-makes : (p : PeerView) → p ≡ peer_then
+      → MakesOne OwesPost c other (core_view (record i { peers = with_item i.peers other p }))
+  posted-makes p e =
+      subst (λ (z : PeerView). MakesOne OwesPost c other (core_view (record i { peers = with_item i.peers other z }))) (sym e)
+      (subst (λ (z : CoreView). MakesOne OwesPost z other (posted_once (core_view i) other)) t.view_is
+      (post-makes (core_view i) other t.core.one_peer_each its-owed its-works))
 
 -- what is kept of the core to which it was posted
-pub posted-peer : (p q r : PeerView) → p ≡ q → r.posted ≡ p.posted + 1 → r.taken ≡ p.taken → r.owed ≡ None → r.least ≡ p.least
+pub posted-peer : {p q r : PeerView} → p ≡ q → r.posted ≡ p.posted + 1 → r.taken ≡ p.taken → r.owed ≡ None → r.least ≡ p.least
     → r ≡ record q { posted = q.posted + 1; owed = None }
-posted-peer p q r e posted taken owed least =
+posted-peer {p} {q} {r} e posted taken owed least =
     subst (λ (z : PeerView). r ≡ record z { posted = z.posted + 1; owed = None }) e
     (λ i. record { posted = posted i; taken = taken i; owed = owed i; least = least i })
-
--- the fields keep what is true of all cores
-pub posted-core : (i : Inside) (other : ℕ) (p : PeerView) → IsCore i → i.failed ≡ false → OwesPost (core_view i) other
-    → p ≡ record (peer_at (core_view i) other) { posted = posted_of (core_view i) other + 1; owed = None }
-    → IsCore (record i { peers = with_item i.peers other p })
-posted-core i other p is works owed e =
-    subst (λ (z : PeerView). IsCore (record i { peers = with_item i.peers other z })) (sym e) (record {
-      is_setup = is.is_setup;
-      lookahead = is.lookahead;
-      same_setup = is.same_setup;
-      same_number = is.same_number;
-      known = is.known;
-      one_peer_each = length-set i.peers.items other _ ∙ is.one_peer_each;
-      none_told = is.none_told;
-      stands = λ f. (let b = is.stands works in (b.0, post-stands (core_view i) other is.one_peer_each owed b.0 b.1));
-    })
-
--- and the core has made the post
-pub posted-makes : (i : Inside) (other : ℕ) (p : PeerView) (c : CoreView) → IsCore i → core_view i ≡ c → c.failed ≡ false → OwesPost c other
-    → p ≡ record (peer_at (core_view i) other) { posted = posted_of (core_view i) other + 1; owed = None }
-    → MakesOne OwesPost c other (core_view (record i { peers = with_item i.peers other p }))
-posted-makes i other p c is view works owed e =
-    subst (λ (z : PeerView). MakesOne OwesPost c other (core_view (record i { peers = with_item i.peers other z }))) (sym e)
-    (subst (λ (z : CoreView). MakesOne OwesPost z other (posted_once (core_view i) other)) view
-    (post-makes (core_view i) other is.one_peer_each (subst (λ (z : CoreView). OwesPost z other) (sym view) owed)
-    (ap (λ (z : CoreView). z.failed) view ∙ works)))

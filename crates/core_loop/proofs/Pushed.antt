@@ -1,5 +1,5 @@
 -- What stands at an index of a list that was pushed to.
-use Rattle.std.proofs.Common.{◌≡◌, ◌⊎◌, inl, inr, ⊎_elim, ℕ, zero, suc, List, [], ◌∷◌, ◌++◌, length, Option, Some, None, refl, ap}
+use Rattle.std.proofs.Common.{◌≡◌, ◌⊎◌, inl, inr, ⊎_elim, ℕ, zero, suc, List, [], ◌∷◌, ◌++◌, length, Some, refl, ap}
 use Rattle.std.specs.Prelude.{slice_get}
 
 -- what stood there, or, at the end, what was pushed

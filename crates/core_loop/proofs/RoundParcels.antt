@@ -27,20 +27,20 @@ handing-starts number first least ps = record {
 }
 
 -- the list that is taken out is the one that was there at first
-pub handing-list : (number : ℕ) (first : Lists) (least : Option ℕ) (ps : List PeerView) (i : ℕ) (qs : List PeerView) (now : Lists)
-    (list there : Vec Note Global) → IsHanding number first least ps i qs now → i < length now → there ≡ get_or now i there → list ≡ there
+pub handing-list : {number : ℕ} {first : Lists} {least : Option ℕ} {ps : List PeerView} {i : ℕ} {qs : List PeerView} {now : Lists}
+    {list there : Vec Note Global} → IsHanding number first least ps i qs now → i < length now → there ≡ get_or now i there → list ≡ there
     → list.items ≡ slice_index_or (items_of first) i []
-handing-list number first least ps i qs now list there h within read same =
+handing-list {i = i} {now = now} {there = there} h within read same =
     ap (λ (l : Vec Note Global). l.items) (same ∙ read)
     ∙ sym (get_or-map (λ (l : Vec Note Global). l.items) now i there [] within)
     ∙ h.lists i (omega arith)
 
 -- one core more has its parcel, or the core itself its least tick
-pub handing-more : (number : ℕ) (first : Lists) (least : Option ℕ) (ps : List PeerView) (i : ℕ) (qs : List PeerView) (now : Lists)
-    (q : PeerView) (new : Vec Note Global) → IsHanding number first least ps i qs now → i < length ps
+handing-more : {number : ℕ} {first : Lists} {least : Option ℕ} {ps : List PeerView} {i : ℕ} {qs : List PeerView} {now : Lists}
+    {q : PeerView} (new : Vec Note Global) → IsHanding number first least ps i qs now → i < length ps
     → IsHanded number (items_of first) least i (slice_index_or qs i no_peer) q
     → IsHanding number first least ps (i + 1) (set qs i q) (set now i new)
-handing-more number first least ps i qs now q new h within one = record {
+handing-more {number} {first} {least} {ps} {i} {qs} {now} {q} new h within one = record {
   as_many = length-set qs i q ∙ h.as_many;
   as_long = length-set now i new ∙ h.as_long;
   handed = handed;
@@ -111,24 +111,24 @@ handed-numbers number lists least ps qs a = record {
     takes other (inr l) = ap (λ (p : PeerView). p.taken) (past other l)
 
 -- the core's own entry has its least tick
-pub handing-own : (number : ℕ) (first : Lists) (least : Option ℕ) (ps : List PeerView) (i : ℕ) (qs : List PeerView) (now : Lists)
-    (peer q : PeerView) (new : Vec Note Global) → IsHanding number first least ps i qs now → i < length ps → i ≡ number
-    → peer ≡ get_or qs i peer → q ≡ record peer { least = least }
+pub handing-own : {number : ℕ} {first : Lists} {least : Option ℕ} {ps : List PeerView} {i : ℕ} {qs : List PeerView} {now : Lists}
+    {peer q : PeerView} → IsHanding number first least ps i qs now → i < length ps → i ≡ number
+    → peer ≡ get_or qs i peer → q ≡ record peer { least = least } → (new : Vec Note Global)
     → IsHanding number first least ps (i + 1) (set qs i q) (set now i new)
-handing-own number first least ps i qs now peer q new h within own read is =
-    handing-more number first least ps i qs now q new h within
+handing-own {number} {first} {least} {ps} {i} {qs} {now} {peer} {q} h within own read is new =
+    handing-more new h within
     (subst (λ (p : PeerView). IsHanded number (items_of first) least i p q)
     (read ∙ get_or_default qs i peer no_peer (let e = h.as_many in omega (arith, within, e)))
     (subst (IsHanded number (items_of first) least i peer) (sym is) (handed-own number first least i peer own)))
 
 -- and that of another core the parcel that it is owed
-pub handing-other : (number : ℕ) (first : Lists) (least : Option ℕ) (ps : List PeerView) (i : ℕ) (qs : List PeerView) (now : Lists)
-    (peer q : PeerView) (r : ParcelView) (notes : List Note) (new : Vec Note Global) → IsHanding number first least ps i qs now → i < length ps
+pub handing-other : {number : ℕ} {first : Lists} {least : Option ℕ} {ps : List PeerView} {i : ℕ} {qs : List PeerView} {now : Lists}
+    {peer q : PeerView} {r : ParcelView} {notes : List Note} → IsHanding number first least ps i qs now → i < length ps
     → i ≢ number → peer ≡ get_or qs i peer → q ≡ record peer { owed = Some r }
-    → notes ≡ slice_index_or (items_of first) i [] → IsParcelOf notes least r
+    → notes ≡ slice_index_or (items_of first) i [] → IsParcelOf notes least r → (new : Vec Note Global)
     → IsHanding number first least ps (i + 1) (set qs i q) (set now i new)
-handing-other number first least ps i qs now peer q r notes new h within other read is list parcel =
-    handing-more number first least ps i qs now q new h within
+handing-other {number} {first} {least} {ps} {i} {qs} {now} {peer} {q} {r} {notes} h within other read is list parcel new =
+    handing-more new h within
     (subst (λ (p : PeerView). IsHanded number (items_of first) least i p q)
     (read ∙ get_or_default qs i peer no_peer (let e = h.as_many in omega (arith, within, e)))
     (subst (IsHanded number (items_of first) least i peer) (sym is) (handed-other number first least i peer r notes other list parcel)))

@@ -29,12 +29,12 @@ use Rattle.mn_base.proofs.Members.{Among-filter_map, Among-from-filter_map}
 use Rattle.journal.proofs.Ends.{fates_hold}
 use Rattle.journal.proofs.Packets.{packet-known}
 use Rattle.parcel.proofs.Sending.{IsEntrant, first_parcel}
-use Rattle.core_loop.specs.CoreView.{PeerView, no_peer}
+use Rattle.core_loop.specs.CoreView.{CoreView, PeerView, no_peer}
 use Rattle.core_loop.specs.Stocked.{Enters, HoldsEntrants, AreBytesOf}
-use Rattle.core_loop.specs.WorldState.{IsHeapAt, visits_below, counts_below, AreSettled}
+use Rattle.core_loop.specs.WorldState.{IsHeapAt, visits_below, counts_below, AreSettled, CoreStands}
 use Rattle.core_loop.specs.Work.{EntrantsView, HaveRun, WorkView, is_settle, is_left_to_tell}
 use Rattle.core_loop.specs.Entering.{EntersAll, CanEnterAll}
-use Rattle.core_loop.specs.Handing.{AreTold, arrivals_told, counts_before, WasDecidedBy, IsToHandOut, IsToSettle}
+use Rattle.core_loop.specs.Handing.{AreTold, arrivals_told, counts_before, WasDecidedBy, IsToHandOut, IsToSettle, SameWindows}
 use Rattle.core_loop.proofs.Counted.{arrivals-first, settles-first}
 use Rattle.core_loop.proofs.Differ.{pairs-from}
 use Rattle.core_loop.proofs.Entered.{IsFirstHere, told_first, told_entry, enters-same, enters-due, enters-canonical, enters-told, told-once, enters-settled, StaysHere}
@@ -196,6 +196,13 @@ pub record IsIdle (S : SetupView) (core : ℕ) (w : WorkView) : Type 0 where
 abbrev pub unsettled : StoreView → EntrantsView
 unsettled store = record { settled = []; store = store }
 
+-- a core at its start: v is its work before anything enters, and w and e are its work and its packets once all have entered
+pub record HasEntered (S : SetupView) (core : ℕ) (store : StoreView) (v w : WorkView) (e : EntrantsView) : Type 0 where
+  pub is_setup : IsSetup S
+  pub holds : HoldsEntrants S core store
+  pub idle : IsIdle S core v
+  pub entered : EntersAll S S.packets v (unsettled store) w e
+
 -- lists that go together are equally long
 zip-length : {X Y : Type 0} (R : X → Y → Type 0) (xs : List X) (ys : List Y) → AllZip R xs ys → length ys ≡ length xs
 zip-length R [] [] z = refl
@@ -203,7 +210,7 @@ zip-length R [] (y ∷ ys) z = absurd z
 zip-length R (x ∷ xs) [] z = absurd z
 zip-length R (x ∷ xs) (y ∷ ys) z = ap suc (zip-length R xs ys z.1)
 
-module _ (S : SetupView) (is : IsSetup S) (core : ℕ) (store : StoreView) (holds : HoldsEntrants S core store) where
+module _ {S : SetupView} {core : ℕ} {store : StoreView} (is : IsSetup S) (holds : HoldsEntrants S core store) where
   -- all packets can enter
   pub can-enter-all : (w : WorkView) → w.heap ≡ [] → CanEnterAll core S.packets w.heap (unsettled store)
   can-enter-all w e = record {
@@ -260,117 +267,130 @@ module _ (S : SetupView) (is : IsSetup S) (core : ℕ) (store : StoreView) (hold
     no_other = λ number some. (holds.only number some, λ a. absurd (subst (Among number) holds.released a));
   }
 
-  module _ (v w : WorkView) (e : EntrantsView) (idle : IsIdle S core v) (entered : EntersAll S S.packets v (unsettled store) w e) where
-    same : (w.setup ≡ v.setup) × (w.number ≡ v.number) × (w.pipes ≡ v.pipes) × (w.counts ≡ v.counts)
-    same = enters-same S core S.packets v w (unsettled store) e entered idle.same_setup idle.same_number
+module _ {S : SetupView} {core : ℕ} {store : StoreView} {v w : WorkView} {e : EntrantsView} (h : HasEntered S core store v w e) where
+  same : (w.setup ≡ v.setup) × (w.number ≡ v.number) × (w.pipes ≡ v.pipes) × (w.counts ≡ v.counts)
+  same = enters-same S core S.packets v w (unsettled store) e h.entered h.idle.same_setup h.idle.same_number
 
-    pub setup : w.setup ≡ S
-    setup = same.0 ∙ idle.same_setup
+  pub setup : w.setup ≡ S
+  setup = same.0 ∙ h.idle.same_setup
 
-    pub number : w.number ≡ core
-    number = same.1 ∙ idle.same_number
+  pub number : w.number ≡ core
+  number = same.1 ∙ h.idle.same_number
 
-    counts : w.counts ≡ v.counts
-    counts = same.3
+  counts : w.counts ≡ v.counts
+  counts = same.3
 
-    turned : (P : SetupView → ℕ → ℕ → Type 0) → P S core 0 → P w.setup w.number w.counts.windows
-    turned P p =
-        subst (λ (T : SetupView). P T w.number w.counts.windows) (sym setup)
-        (subst (λ (k : ℕ). P S k w.counts.windows) (sym number)
-        (subst (P S core) (sym (ap (λ (c : CoreCounts). c.windows) (counts ∙ idle.counts_are))) p))
+  turned : (P : SetupView → ℕ → ℕ → Type 0) → P S core 0 → P w.setup w.number w.counts.windows
+  turned P p =
+      subst (λ (T : SetupView). P T w.number w.counts.windows) (sym setup)
+      (subst (λ (k : ℕ). P S k w.counts.windows) (sym number)
+      (subst (P S core) (sym (ap (λ (c : CoreCounts). c.windows) (counts ∙ h.idle.counts_are))) p))
 
-    none-run : visits_below S 0 ≡ []
-    none-run = filter-none (λ (u : Visit). nat_lt (window_of S u.tick) 0) (journal_of S) (λ u a. le-ltb (window_of S u.tick) 0 (omega arith))
+  none-run : visits_below S 0 ≡ []
+  none-run = filter-none (λ (u : Visit). nat_lt (window_of S u.tick) 0) (journal_of S) (λ u a. le-ltb (window_of S u.tick) 0 (omega arith))
 
-    due : IsHeapAt S core 0 (λ other. 0) w.heap
-    due = record {
-      canonical =
-          enters-canonical S core S.packets v w (unsettled store) e entered idle.same_setup idle.same_number (λ p a. a)
-          (can-enter-all v idle.heap_empty) (subst IsCanonical (sym idle.heap_empty) tt);
-      members = λ x. (there x, back x);
-    }
-      where
-        m : (x : Due) → Among x w.heap ↔ (Among x v.heap ⊎ ((p : PacketPlan) × Among p S.packets × IsFirstHere S core p x))
-        m = enters-due S core S.packets v w (unsettled store) e entered idle.same_setup idle.same_number
+  due : IsHeapAt S core 0 (λ other. 0) w.heap
+  due = record {
+    canonical =
+        enters-canonical S core S.packets v w (unsettled store) e h.entered h.idle.same_setup h.idle.same_number (λ p a. a)
+        (can-enter-all h.is_setup h.holds v h.idle.heap_empty) (subst IsCanonical (sym h.idle.heap_empty) tt);
+    members = λ x. (there x, back x);
+  }
+    where
+      m : (x : Due) → Among x w.heap ↔ (Among x v.heap ⊎ ((p : PacketPlan) × Among p S.packets × IsFirstHere S core p x))
+      m = enters-due S core S.packets v w (unsettled store) e h.entered h.idle.same_setup h.idle.same_number
 
-        there : (x : Due) → Among x w.heap → (u : Visit) × IsDueAt S core 0 (λ other. 0) u × (due_of u ≡ x)
-        there x a =
-            ⊎_elim (λ o. absurd (subst (Among x) idle.heap_empty o)) (λ f. (first-due-here S is core x).0 f) ((m x).0 a)
+      there : (x : Due) → Among x w.heap → (u : Visit) × IsDueAt S core 0 (λ other. 0) u × (due_of u ≡ x)
+      there x a =
+          ⊎_elim (λ o. absurd (subst (Among x) h.idle.heap_empty o)) (λ f. (first-due-here S h.is_setup core x).0 f) ((m x).0 a)
 
-        back : (x : Due) → (u : Visit) × IsDueAt S core 0 (λ other. 0) u × (due_of u ≡ x) → Among x w.heap
-        back x d = (m x).1 (inr ((first-due-here S is core x).1 d))
+      back : (x : Due) → (u : Visit) × IsDueAt S core 0 (λ other. 0) u × (due_of u ≡ x) → Among x w.heap
+      back x d = (m x).1 (inr ((first-due-here S h.is_setup core x).1 d))
 
-    told : w.told ≡ filter_map (told_entry S core) S.packets
-    told =
-        enters-told S core S.packets v w (unsettled store) e entered idle.same_setup idle.same_number
-        ∙ ap (λ (l : List Told). l ++ filter_map (told_entry S core) S.packets) idle.none_told
+  told : w.told ≡ filter_map (told_entry S core) S.packets
+  told =
+      enters-told S core S.packets v w (unsettled store) e h.entered h.idle.same_setup h.idle.same_number
+      ∙ ap (λ (l : List Told). l ++ filter_map (told_entry S core) S.packets) h.idle.none_told
 
-    pipes-run : HaveRun S core (visits_below S 0) w.pipes
-    pipes-run = subst (HaveRun S core (visits_below S 0)) (sym same.2) (subst (λ (J : List Visit). HaveRun S core J v.pipes) (sym none-run) idle.pipes_idle)
+  pipes-run : HaveRun S core (visits_below S 0) w.pipes
+  pipes-run = subst (HaveRun S core (visits_below S 0)) (sym same.2) (subst (λ (J : List Visit). HaveRun S core J v.pipes) (sym none-run) h.idle.pipes_idle)
 
-    counts-at : w.counts ≡ counts_before S core 0
-    counts-at =
-        counts ∙ idle.counts_are
-        ∙ ap (λ (n : ℕ). record {
-          pipes = n;
-          entered = length (filter (λ p. p.core == core) S.packets);
-          visits = 0;
-          arrivals = 0;
-          settles = 0;
-          windows = 0;
-        }) (zip-length _ (own_pipes S core) v.pipes.pipes idle.pipes_idle.pipes_are)
-        ∙ ap (λ (J : List Visit). record {
-          pipes = length (own_pipes S core);
-          entered = length (filter (λ p. p.core == core) S.packets);
-          visits = length (filter (λ u. owner_of S u.pipe == core) J);
-          arrivals = 0;
-          settles = 0;
-          windows = 0;
-        }) (sym none-run)
-        ∙ ap (λ (n : ℕ). record (counts_below S core 0) { arrivals = n; settles = 0 }) (sym (arrivals-first S core))
-        ∙ ap (λ (n : ℕ). record (counts_below S core 0) { arrivals = arrivals_told S core 0; settles = n }) (sym (settles-first S core))
+  counts-at : w.counts ≡ counts_before S core 0
+  counts-at =
+      counts ∙ h.idle.counts_are
+      ∙ ap (λ (n : ℕ). record {
+        pipes = n;
+        entered = length (filter (λ p. p.core == core) S.packets);
+        visits = 0;
+        arrivals = 0;
+        settles = 0;
+        windows = 0;
+      }) (zip-length _ (own_pipes S core) v.pipes.pipes h.idle.pipes_idle.pipes_are)
+      ∙ ap (λ (J : List Visit). record {
+        pipes = length (own_pipes S core);
+        entered = length (filter (λ p. p.core == core) S.packets);
+        visits = length (filter (λ u. owner_of S u.pipe == core) J);
+        arrivals = 0;
+        settles = 0;
+        windows = 0;
+      }) (sym none-run)
+      ∙ ap (λ (n : ℕ). record (counts_below S core 0) { arrivals = n; settles = 0 }) (sym (arrivals-first S core))
+      ∙ ap (λ (n : ℕ). record (counts_below S core 0) { arrivals = arrivals_told S core 0; settles = n }) (sym (settles-first S core))
 
-    pub windows : w.counts.windows ≡ 0
-    windows = ap (λ (c : CoreCounts). c.windows) (counts ∙ idle.counts_are)
+  pub windows : w.counts.windows ≡ 0
+  windows = ap (λ (c : CoreCounts). c.windows) (counts ∙ h.idle.counts_are)
 
-    -- a core that has entered its packets is to hand out what it has noted
-    pub ready : core < S.cores → (peers : List PeerView) → peers ≡ replicate S.cores no_peer → IsToHandOut w peers
-    ready known peers are = record {
-      is_setup = subst IsSetup (sym setup) is;
-      known = turned (λ T k n. k < T.cores) known;
-      within = (let e = windows in omega (arith, e));
-      one_peer_each = ap length are ∙ length-replicate S.cores no_peer ∙ ap (λ (T : SetupView). T.cores) (sym setup);
-      posted = λ other l d. ap (λ (p : PeerView). p.posted) (peer other l) ∙ sym windows;
-      taken = λ other l d. ap (λ (p : PeerView). p.taken) (peer other l) ∙ sym windows;
-      heap_is = turned (λ T k n. IsHeapAt T k n (λ other. n) w.heap) due;
-      pipes_have_run = turned (λ T k n. HaveRun T k (visits_below T n) w.pipes) pipes-run;
-      counts_are = turned (λ T k n. w.counts ≡ counts_before T k n) counts-at;
-      told_are = turned (λ T k n. AreTold T k n w.told) (subst (AreTold S core 0) (sym told) (told-at-start S is core));
-    }
-      where
-        peer : (other : ℕ) → other < w.setup.cores → slice_index_or peers other no_peer ≡ no_peer
-        peer other l =
-            let c : w.setup.cores ≡ S.cores = ap (λ (T : SetupView). T.cores) setup in
-            ap (λ (ps : List PeerView). slice_index_or ps other no_peer) are
-            ∙ get_or-replicate S.cores other no_peer no_peer (omega (arith, l, c))
+  -- a core that has entered its packets is to hand out what it has noted
+  pub ready : core < S.cores → (peers : List PeerView) → peers ≡ replicate S.cores no_peer → IsToHandOut w peers
+  ready known peers are = record {
+    is_setup = subst IsSetup (sym setup) h.is_setup;
+    known = turned (λ T k n. k < T.cores) known;
+    within = (let e = windows in omega (arith, e));
+    one_peer_each = ap length are ∙ length-replicate S.cores no_peer ∙ ap (λ (T : SetupView). T.cores) (sym setup);
+    posted = λ other l d. ap (λ (p : PeerView). p.posted) (peer other l) ∙ sym windows;
+    taken = λ other l d. ap (λ (p : PeerView). p.taken) (peer other l) ∙ sym windows;
+    heap_is = turned (λ T k n. IsHeapAt T k n (λ other. n) w.heap) due;
+    pipes_have_run = turned (λ T k n. HaveRun T k (visits_below T n) w.pipes) pipes-run;
+    counts_are = turned (λ T k n. w.counts ≡ counts_before T k n) counts-at;
+    told_are = turned (λ T k n. AreTold T k n w.told) (subst (AreTold S core 0) (sym told) (told-at-start S h.is_setup core));
+  }
+    where
+      peer : (other : ℕ) → other < w.setup.cores → slice_index_or peers other no_peer ≡ no_peer
+      peer other l =
+          let c : w.setup.cores ≡ S.cores = ap (λ (T : SetupView). T.cores) setup in
+          ap (λ (ps : List PeerView). slice_index_or ps other no_peer) are
+          ∙ get_or-replicate S.cores other no_peer no_peer (omega (arith, l, c))
 
-    -- and the packets that have no way to go are settled
-    pub ready-settled : (bytes : List (List ℕ)) → AreBytesOf S core store bytes → IsToSettle bytes w e
-    ready-settled bytes are =
-        turned (λ T k n. AreSettled T bytes k (WasDecidedBy T k n (λ other. n)) e.settled e.store)
-        (settled-as S bytes core (λ p. ⊥ ⊎ StaysHere S core S.packets p) (WasDecidedBy S core 0 (λ other. 0)) e.settled e.store
-        (λ p n. (there p, back p n))
-        (enters-settled S core (λ p a none. (fates_hold S is).at_once p (entry-none S p none)) bytes (λ p. ⊥) S.packets v w (unsettled store) e
-        entered idle.same_setup idle.same_number (λ p a. a) (none-settled bytes are)))
-      where
-        there : (p : PacketPlan) → ⊥ ⊎ StaysHere S core S.packets p → WasDecidedBy S core 0 (λ other. 0) p
-        there p (inl none) = absurd none
-        there p (inr f) = inl (entry-none S p f.1)
+  -- and the packets that have no way to go are settled
+  pub ready-settled : (bytes : List (List ℕ)) → AreBytesOf S core store bytes → IsToSettle bytes w e
+  ready-settled bytes are =
+      turned (λ T k n. AreSettled T bytes k (WasDecidedBy T k n (λ other. n)) e.settled e.store)
+      (settled-as S bytes core (λ p. ⊥ ⊎ StaysHere S core S.packets p) (WasDecidedBy S core 0 (λ other. 0)) e.settled e.store
+      (λ p n. (there p, back p n))
+      (enters-settled S core (λ p a none. (fates_hold S h.is_setup).at_once p (entry-none S p none)) bytes (λ p. ⊥) S.packets v w (unsettled store) e
+      h.entered h.idle.same_setup h.idle.same_number (λ p a. a) (none-settled h.is_setup h.holds bytes are)))
+    where
+      there : (p : PacketPlan) → ⊥ ⊎ StaysHere S core S.packets p → WasDecidedBy S core 0 (λ other. 0) p
+      there p (inl none) = absurd none
+      there p (inr f) = inl (entry-none S p f.1)
 
-        back : (p : PacketPlan) → Enters S core p → WasDecidedBy S core 0 (λ other. 0) p → ⊥ ⊎ StaysHere S core S.packets p
-        back p n (inl r) = inr (n.among, none-entry S p r)
-        back p n (inr (inl o)) = let l : o.0 < 0 = o.1 in absurd (omega (arith, l))
-        back p n (inr (inr t)) = let l : t.1 < 0 = t.3 in absurd (omega (arith, l))
+      back : (p : PacketPlan) → Enters S core p → WasDecidedBy S core 0 (λ other. 0) p → ⊥ ⊎ StaysHere S core S.packets p
+      back p n (inl r) = inr (n.among, none-entry S p r)
+      back p n (inr (inl o)) = let l : o.0 < 0 = o.1 in absurd (omega (arith, l))
+      back p n (inr (inr t)) = let l : t.1 < 0 = t.3 in absurd (omega (arith, l))
+
+  -- what is handed out then is of this core
+  pub setup-then : {x : WorkView} → SameWindows w x → x.setup ≡ S
+  setup-then same = same.same_setup ∙ setup
+
+  pub number-then : {x : WorkView} → SameWindows w x → x.number ≡ core
+  number-then same = same.same_number ∙ number
+
+  pub stands-then : {x : WorkView} → SameWindows w x → (view : CoreView) (bytes : List (List ℕ))
+      → CoreStands bytes (record view { setup = x.setup; number = x.number }) → CoreStands bytes (record view { setup = S; number = core })
+  stands-then {x} same view bytes stands =
+      subst (λ (k : ℕ). CoreStands bytes (record view { setup = S; number = k })) (number-then same)
+      (subst (λ (T : SetupView). CoreStands bytes (record view { setup = T; number = x.number })) (setup-then same) stands)
 
 -- what is kept of a core at the start, or of none
 pub peer-at-start : (n other : ℕ) → slice_index_or (replicate n no_peer) other no_peer ≡ no_peer

@@ -51,7 +51,7 @@ holds-none S bytes core = record {
   released = refl;
 }
 
-module _ (S : SetupView) (is : IsSetup S) (bytes : List (List ℕ)) (long : length bytes ≡ length S.packets) where
+module _ {S : SetupView} {bytes : List (List ℕ)} (is : IsSetup S) (long : length bytes ≡ length S.packets) where
   -- when all are put in, a store has the bytes of the packets that enter at its core
   pub holds-bytes : (core : ℕ) (store : StoreView) → HoldsFirst S bytes core (length S.packets) store → AreBytesOf S core store bytes
   holds-bytes core store h = record { each_has_bytes = long; in_store = in-store }
@@ -81,9 +81,6 @@ module _ (S : SetupView) (is : IsSetup S) (bytes : List (List ℕ)) (long : leng
           (get_or S.packets o.0 d, record { among = Among-index S.packets o.0 d o.2; entered = (o.3 d).0 }, (o.3 d).1)
 
   module _ (i : ℕ) (d : PacketPlan) (payload : List ℕ) (within : i < length S.packets) where
-    abbrev plan : PacketPlan
-    plan = get_or S.packets i d
-
     -- a packet that is put in isn't there yet
     pub not-held : (store : StoreView) → HoldsFirst S bytes (get_or S.packets i d).core i store
         → fin.get store.held (get_or S.packets i d).number ≡ None
@@ -197,68 +194,86 @@ all-none S bytes stores n are cores = record {
       (holds-none S bytes core);
 }
 
-module _ (S : SetupView) (is : IsSetup S) (bytes : List (List ℕ)) (long : length bytes ≡ length S.packets) (stores : List StoreView)
-    (i : ℕ) (all : AllHold S bytes i stores) where
+-- the stores with the first packets of a setup, which has as many packets as there are bytes
+pub record AreStocked (S : SetupView) (bytes : List (List ℕ)) (count : ℕ) (stores : List StoreView) : Type 0 where
+  pub is_setup : IsSetup S
+  pub long : length bytes ≡ length S.packets
+  pub all : AllHold S bytes count stores
+
+-- the next packet: its plan, and the store of its core
+pub record IsNext (S : SetupView) (bytes : List (List ℕ)) (i : ℕ) (stores : List StoreView) (plan : PacketPlan) (store : StoreView) : Type 0 where
+  pub stocked : AreStocked S bytes i stores
+  pub within : i < length S.packets
+  pub at : plan ≡ get_or S.packets i plan
+  pub read : store ≡ get_or stores plan.core store
+
+module _ {S : SetupView} {bytes : List (List ℕ)} {stores : List StoreView} {i : ℕ} (k : AreStocked S bytes i stores) where
   -- all are put in
   holds-all : i ≡ length S.packets → (core : ℕ) (store : StoreView) → slice_get stores core ≡ Some store
       → HoldsFirst S bytes core (length S.packets) store
   holds-all done core store at =
       subst (λ (n : ℕ). HoldsFirst S bytes core n store) done
       (subst (HoldsFirst S bytes core i) (get_or_from_slice_get stores core store store at)
-      (all.each core store (slice_get_within stores core store at)))
+      (k.all.each core store (slice_get_within stores core store at)))
 
   pub are-stores : i ≡ length S.packets → AreStores S stores
   are-stores done = record {
-    one_a_core = all.as_many;
-    holds = λ core store at. holds-entrants S is bytes long core store (holds-all done core store at);
+    one_a_core = k.all.as_many;
+    holds = λ core store at. holds-entrants k.is_setup k.long core store (holds-all done core store at);
   }
 
   pub are-bytes-in : i ≡ length S.packets → AreBytesIn S stores bytes
-  are-bytes-in done = λ core store at. holds-bytes S is bytes long core store (holds-all done core store at)
+  are-bytes-in done = λ core store at. holds-bytes k.is_setup k.long core store (holds-all done core store at)
 
-  module _ (plan : PacketPlan) (within : i < length S.packets) (at : plan ≡ get_or S.packets i plan) (store : StoreView)
-      (inside : plan.core < length stores) (read : store ≡ get_or stores plan.core store) where
-    its-store : HoldsFirst S bytes (get_or S.packets i plan).core i store
-    its-store =
-        subst (λ (p : PacketPlan). HoldsFirst S bytes p.core i store) at
-        (subst (HoldsFirst S bytes plan.core i) (sym read) (all.each plan.core store inside))
+module _ {S : SetupView} {bytes : List (List ℕ)} {stores : List StoreView} {i : ℕ} {plan : PacketPlan} {store : StoreView}
+    (n : IsNext S bytes i stores plan store) where
+  -- its core has a store
+  pub core-within : plan.core < length stores
+  core-within =
+      let core : (get_or S.packets i plan).core < S.cores = n.stocked.is_setup.packet_cores i plan n.within in
+      omega (arith, core, ap (λ (p : PacketPlan). p.core) n.at, n.stocked.all.as_many)
 
-    -- the next packet isn't in the store of its core yet
-    pub fresh-at : fin.get store.held plan.number ≡ None
-    fresh-at =
-        ap (λ (p : PacketPlan). fin.get store.held p.number) at
-        ∙ not-held S is bytes long i plan [] within store its-store
+  its-store : HoldsFirst S bytes (get_or S.packets i plan).core i store
+  its-store =
+      subst (λ (p : PacketPlan). HoldsFirst S bytes p.core i store) n.at
+      (subst (HoldsFirst S bytes plan.core i) (sym n.read) (n.stocked.all.each plan.core store core-within))
 
-    -- it is put in
-    pub all-more : (payload : List ℕ) (new : StoreView) → payload ≡ get_or bytes i payload
-        → new.held ≡ fin.insert store.held plan.number payload → new.released ≡ store.released
-        → AllHold S bytes (i + 1) (slice_set stores plan.core new)
-    all-more payload new bytes_are held released = record {
-      as_many = length-set stores plan.core new ∙ all.as_many;
-      each = each;
-    }
-      where
-        put : HoldsFirst S bytes plan.core (i + 1) new
-        put =
-            subst (λ (p : PacketPlan). HoldsFirst S bytes p.core (i + 1) new) (sym at)
-            (put-in S is bytes long i plan payload within store new its-store
-            (held
-            ∙ ap (λ (p : PacketPlan). fin.insert store.held p.number payload) at
-            ∙ ap (fin.insert store.held (get_or S.packets i plan).number) bytes_are)
-            released)
+  -- the next packet isn't in the store of its core yet
+  pub fresh-at : fin.get store.held plan.number ≡ None
+  fresh-at =
+      ap (λ (p : PacketPlan). fin.get store.held p.number) n.at
+      ∙ not-held n.stocked.is_setup n.stocked.long i plan [] n.within store its-store
 
-        each : (core : ℕ) (d : StoreView) → core < length (slice_set stores plan.core new)
-            → HoldsFirst S bytes core (i + 1) (slice_index_or (slice_set stores plan.core new) core d)
-        each core d below = go (cases_eq core plan.core)
-          where
-            low : core < length stores
-            low = omega (arith, below, length-set stores plan.core new)
+  -- it is put in
+  pub all-more : {payload : List ℕ} (new : StoreView) → payload ≡ get_or bytes i payload
+      → new.held ≡ fin.insert store.held plan.number payload → new.released ≡ store.released
+      → AllHold S bytes (i + 1) (slice_set stores plan.core new)
+  all-more {payload} new bytes_are held released = record {
+    as_many = length-set stores plan.core new ∙ n.stocked.all.as_many;
+    each = each;
+  }
+    where
+      put : HoldsFirst S bytes plan.core (i + 1) new
+      put =
+          subst (λ (p : PacketPlan). HoldsFirst S bytes p.core (i + 1) new) (sym n.at)
+          (put-in n.stocked.is_setup n.stocked.long i plan payload n.within store new its-store
+          (held
+          ∙ ap (λ (p : PacketPlan). fin.insert store.held p.number payload) n.at
+          ∙ ap (fin.insert store.held (get_or S.packets i plan).number) bytes_are)
+          released)
 
-            go : (core ≡ plan.core) ⊎ (core ≢ plan.core) → HoldsFirst S bytes core (i + 1) (slice_index_or (slice_set stores plan.core new) core d)
-            go (inl same) =
-                subst (λ (k : ℕ). HoldsFirst S bytes k (i + 1) (slice_index_or (slice_set stores plan.core new) k d)) (sym same)
-                (subst (HoldsFirst S bytes plan.core (i + 1)) (sym (get_or-set_same stores plan.core new d inside)) put)
-            go (inr other) =
-                subst (HoldsFirst S bytes core (i + 1)) (sym (get_or-set_other stores plan.core core new d other))
-                (put-elsewhere S is bytes long i plan payload within core (slice_index_or stores core d)
-                (λ e. other (e ∙ ap (λ (p : PacketPlan). p.core) (sym at))) (all.each core d low))
+      each : (core : ℕ) (d : StoreView) → core < length (slice_set stores plan.core new)
+          → HoldsFirst S bytes core (i + 1) (slice_index_or (slice_set stores plan.core new) core d)
+      each core d below = go (cases_eq core plan.core)
+        where
+          low : core < length stores
+          low = omega (arith, below, length-set stores plan.core new)
+
+          go : (core ≡ plan.core) ⊎ (core ≢ plan.core) → HoldsFirst S bytes core (i + 1) (slice_index_or (slice_set stores plan.core new) core d)
+          go (inl same) =
+              subst (λ (k : ℕ). HoldsFirst S bytes k (i + 1) (slice_index_or (slice_set stores plan.core new) k d)) (sym same)
+              (subst (HoldsFirst S bytes plan.core (i + 1)) (sym (get_or-set_same stores plan.core new d core-within)) put)
+          go (inr other) =
+              subst (HoldsFirst S bytes core (i + 1)) (sym (get_or-set_other stores plan.core core new d other))
+              (put-elsewhere n.stocked.is_setup n.stocked.long i plan payload n.within core (slice_index_or stores core d)
+              (λ e. other (e ∙ ap (λ (p : PacketPlan). p.core) (sym n.at))) (n.stocked.all.each core d low))

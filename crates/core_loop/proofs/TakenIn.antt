@@ -51,7 +51,7 @@ pub record IsTakingIn (c : CoreView) (other : ℕ) (p : ParcelView) : Type 0 whe
   pub owed : OwesTake c other
   pub parcel : IsParcel c.setup other c.number (windows_of c) p
 
-module _ (c : CoreView) (other : ℕ) (p : ParcelView) (t : IsTakingIn c other p) where
+module _ {c : CoreView} {other : ℕ} {p : ParcelView} (t : IsTakingIn c other p) where
   other-is : IsOtherCore c other
   other-is = t.owed.0
 
@@ -193,8 +193,7 @@ module _ (c : CoreView) (other : ℕ) (p : ParcelView) (t : IsTakingIn c other p
       taken = λ o d. taken o d (cases_eq o other);
     };
     knows = record {
-      heap = heap-takes c.setup t.is_setup c.number (windows_of c) other (taken_of c) (taken_of (taken_then h e)) (takes-one h e) apart at
-          p.notes t.parcel.notes c.heap h s.knows.heap
+      heap = heap-takes t.is_setup (takes-one h e) apart at p.notes t.parcel.notes s.knows.heap
           (taken-canonical p.notes c.heap h (entrants_of c) e (can-parcel bytes s) took s.knows.heap.canonical)
           (taken-due p.notes c.heap h (entrants_of c) e took);
       least = subst (IsLeastKnown c.setup c.number (windows_of c))
@@ -237,16 +236,16 @@ module _ (c : CoreView) (other : ℕ) (p : ParcelView) (t : IsTakingIn c other p
           → IsDecidedBy c.setup c.number (windows_of c) (taken_of c) q ⊎ Among (settle_note c.setup q) p.notes
           → IsDecidedBy c.setup c.number (windows_of c) new q
       decided q n (inl b) =
-          (decided-takes c.setup t.is_setup c.number (windows_of c) other (taken_of c) new (takes-one h e) apart at q).1 (inl b)
+          (decided-takes t.is_setup (takes-one h e) apart at q).1 (inl b)
       decided q n (inr a) =
-          (decided-takes c.setup t.is_setup c.number (windows_of c) other (taken_of c) new (takes-one h e) apart at q).1
+          (decided-takes t.is_setup (takes-one h e) apart at q).1
           (inr (its q n.among ((t.parcel.notes (settle_note c.setup q)).0 a)))
 
       known : (q : PacketPlan) → IsDecidedBy c.setup c.number (windows_of c) new q
           → IsDecidedBy c.setup c.number (windows_of c) (taken_of c) q ⊎ Among (settle_note c.setup q) p.notes
       known q b =
           ⊎_elim (λ o. inl o) (λ d. inr ((t.parcel.notes (settle_note c.setup q)).1 (inr (q, d, refl))))
-          ((decided-takes c.setup t.is_setup c.number (windows_of c) other (taken_of c) new (takes-one h e) apart at q).0 b)
+          ((decided-takes t.is_setup (takes-one h e) apart at q).0 b)
 
       tells : (packet : ℕ) (fate : Fate) → Among (Settle packet fate) p.notes
           → (q : PacketPlan) × Enters c.setup c.number q × (settle_note c.setup q ≡ Settle packet fate)
@@ -274,28 +273,35 @@ view_of S number peers w e failed = record {
 }
 
 -- what is read at the core's index is what is kept of it
-pub peer-read : (c : CoreView) (other : ℕ) (p : ParcelView) → IsTakingIn c other p → (peer : PeerView) → peer ≡ get_or c.peers other peer
+pub peer-read : {c : CoreView} {other : ℕ} {p : ParcelView} → IsTakingIn c other p → {peer : PeerView} → peer ≡ get_or c.peers other peer
     → peer ≡ peer_at c other
-peer-read c other p t peer is = is ∙ get_or_default c.peers other peer no_peer (within c other p t)
+peer-read {c} {other} t {peer} is = is ∙ get_or_default c.peers other peer no_peer (within t)
 
 -- the count of takes has room for one more
-pub take-room : (c : CoreView) (other : ℕ) (p : ParcelView) → IsTakingIn c other p → (bytes : List (List ℕ)) → CoreStands bytes c
+pub take-room : {c : CoreView} {other : ℕ} {p : ParcelView} → IsTakingIn c other p → (bytes : List (List ℕ)) → CoreStands bytes c
     → taken_of c other + 1 < 2 ^ 64
-take-room c other p t bytes s =
+take-room {c} {other} t bytes s =
     let few : window_count c.setup < 2 ^ 28 = few_windows c.setup t.is_setup in
     let l : windows_of c ≤ window_count c.setup = s.in_step.within in
     let e : taken_of c other ≡ windows_of c = t.owed.1 in
     omega (arith, few, l, e)
 
-module _ (S : SetupView) (number : ℕ) (peers : List PeerView) (w x : WorkView) (e f : EntrantsView) (failed : Bool) (other : ℕ)
-    (p : ParcelView) (q : PeerView) where
-  pub stands-taken : (t : IsTakingIn (view_of S number peers w e failed) other p) → failed ≡ false → SameButHeap w x
-      → q ≡ record (slice_index_or peers other no_peer) { taken = (slice_index_or peers other no_peer).taken + 1; least = p.least }
-      → TakesNotes p.notes w.heap e x.heap f → (bytes : List (List ℕ)) → CoreStands bytes (view_of S number peers w e failed)
-      → CoreStands bytes (view_of S number (set peers other q) x f false)
-  stands-taken t works same is took bytes s =
-      subst (CoreStands bytes)
-      (ap (λ (b : Bool). view_of S number (set peers other (peer_then (view_of S number peers w e failed) other p t)) (record w { heap = x.heap }) f b) works
-      ∙ ap (λ (y : WorkView). view_of S number (set peers other (peer_then (view_of S number peers w e failed) other p t)) y f false) (sym same)
-      ∙ ap (λ (r : PeerView). view_of S number (set peers other r) x f false) (sym is))
-      (stands-then (view_of S number peers w e failed) other p t bytes s x.heap f took)
+-- the parcel is taken in: w was the work, and e what entered; x is the work then, f what entered, and q what is kept of the other core
+pub record HasTakenIn (S : SetupView) (number : ℕ) (peers : List PeerView) (w : WorkView) (e : EntrantsView) (failed : Bool) (other : ℕ)
+    (p : ParcelView) (x : WorkView) (f : EntrantsView) (q : PeerView) : Type 0 where
+  pub taking : IsTakingIn (view_of S number peers w e failed) other p
+  pub works : failed ≡ false
+  pub same : SameButHeap w x
+  pub peer_is : q ≡ record (slice_index_or peers other no_peer) { taken = (slice_index_or peers other no_peer).taken + 1; least = p.least }
+  pub took : TakesNotes p.notes w.heap e x.heap f
+
+pub stands-taken : {S : SetupView} {number : ℕ} {peers : List PeerView} {w x : WorkView} {e f : EntrantsView} {failed : Bool} {other : ℕ}
+    {p : ParcelView} {q : PeerView} → HasTakenIn S number peers w e failed other p x f q
+    → (bytes : List (List ℕ)) → CoreStands bytes (view_of S number peers w e failed)
+    → CoreStands bytes (view_of S number (set peers other q) x f false)
+stands-taken {S} {number} {peers} {w} {x} {e} {f} {failed} {other} {p} {q} h bytes s =
+    subst (CoreStands bytes)
+    (ap (λ (b : Bool). view_of S number (set peers other (peer_then h.taking)) (record w { heap = x.heap }) f b) h.works
+    ∙ ap (λ (y : WorkView). view_of S number (set peers other (peer_then h.taking)) y f false) (sym h.same)
+    ∙ ap (λ (r : PeerView). view_of S number (set peers other r) x f false) (sym h.peer_is))
+    (stands-then h.taking bytes s x.heap f h.took)

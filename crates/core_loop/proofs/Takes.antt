@@ -230,10 +230,10 @@ pub taking-can : (notes : List Note) (i : ℕ) (v w : WorkView) (d e : EntrantsV
 taking-can notes i v w d e note t within is =
     t.left.each note (subst (Among note) (sym (rest-is notes i note within is)) (inl refl))
 
-pub taking-more : (notes : List Note) (i : ℕ) (v w x : WorkView) (d e f : EntrantsView) (note : Note) → IsTaking notes i v w d e
+pub taking-more : {notes : List Note} {i : ℕ} {v w x : WorkView} {d e f : EntrantsView} {note : Note} → IsTaking notes i v w d e
     → i < length notes → note ≡ get_or notes i note → TakesNote note w.heap e x.heap f → SameButHeap w x
     → IsTaking notes (i + 1) v x d f
-taking-more notes i v w x d e f note t within is took same = record {
+taking-more {notes} {i} {v} {w} {x} {d} {e} {f} {note} t within is took same = record {
   left = can-next note (drop (i + 1) notes) w.heap x.heap e f (subst (λ (l : List Note). CanTakeAll l w.heap e) rest t.left) took;
   done = λ h g more. t.done h g (subst (λ (l : List Note). TakesNotes l w.heap e h g) (sym rest) (x.heap, f, took, more));
   same = same ∙ ap (λ (y : WorkView). record y { heap = x.heap }) t.same;

@@ -26,19 +26,23 @@ abbrev pub due_in : Note → Due
 due_in (Arrive packet hop tick) = record { tick = tick; packet = packet; hop = hop }
 due_in (Settle packet fate) = record { tick = 0; packet = packet; hop = 0 }
 
-module _ (S : SetupView) (is : IsSetup S) (core windows sender : ℕ) (old new : ℕ → ℕ) (takes : TakesOne old new sender)
+module _ {S : SetupView} {core windows sender : ℕ} {old new : ℕ → ℕ} (is : IsSetup S) (takes : TakesOne old new sender)
     (other : sender ≢ core) (at : old sender ≡ windows) where
+  due-more : (v : Visit) → IsDueAt S core windows new v ↔ (IsDueAt S core windows old v ⊎ IsArrival S sender core windows v)
+  due-more v = due-takes S is core windows sender old new takes other at v
+
+  -- the heap has what was due, and what arrives
   pub heap-takes : (notes : List Note) → ((note : Note) → Among note notes ↔ IsNote S sender core windows note)
-      → (before after : List Due) → IsHeapAt S core windows old before → IsCanonical after
+      → {before after : List Due} → IsHeapAt S core windows old before → IsCanonical after
       → ((x : Due) → Among x after ↔ (Among x before ⊎ Among (due_note x) notes))
       → IsHeapAt S core windows new after
-  heap-takes notes are before after h canonical members = record { canonical = canonical; members = λ x. (there x, back x) }
+  heap-takes notes are {before} {after} h canonical members = record { canonical = canonical; members = λ x. (there x, back x) }
     where
       there : (x : Due) → Among x after → (v : Visit) × IsDueAt S core windows new v × (due_of v ≡ x)
       there x a = go ((members x).0 a)
         where
           note : IsNote S sender core windows (due_note x) → (v : Visit) × IsDueAt S core windows new v × (due_of v ≡ x)
-          note (inl v) = (v.0, (due-takes S is core windows sender old new takes other at v.0).1 (inr v.1), due_is v.2)
+          note (inl v) = (v.0, (due-more v.0).1 (inr v.1), due_is v.2)
             where
               due_is : Arrive v.0.packet v.0.hop v.0.tick ≡ Arrive x.packet x.hop x.tick → due_of v.0 ≡ x
               due_is e = ap due_in e
@@ -47,11 +51,11 @@ module _ (S : SetupView) (is : IsSetup S) (core windows sender : ℕ) (old new :
           go : Among x before ⊎ Among (due_note x) notes → (v : Visit) × IsDueAt S core windows new v × (due_of v ≡ x)
           go (inl b) =
               let m = (h.members x).0 b in
-              (m.0, (due-takes S is core windows sender old new takes other at m.0).1 (inl m.1), m.2)
+              (m.0, (due-more m.0).1 (inl m.1), m.2)
           go (inr n) = note ((are (due_note x)).0 n)
 
       back : (x : Due) → (v : Visit) × IsDueAt S core windows new v × (due_of v ≡ x) → Among x after
-      back x m = (members x).1 (go ((due-takes S is core windows sender old new takes other at m.0).0 m.1))
+      back x m = (members x).1 (go ((due-more m.0).0 m.1))
         where
           go : IsDueAt S core windows old m.0 ⊎ IsArrival S sender core windows m.0 → Among x before ⊎ Among (due_note x) notes
           go (inl d) = inl ((h.members x).1 (m.0, d, m.2))

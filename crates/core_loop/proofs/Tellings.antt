@@ -41,9 +41,9 @@ use Rattle.core_loop.proofs.LeastTicks.{least-known}
 use Rattle.core_loop.proofs.Takes.{settled-as, settle-all}
 
 -- what is due at a core is said by how many parcels it has taken of the setup's other cores alone
-pub heap-alike : (S : SetupView) → IsSetup S → (core n : ℕ) (a b : ℕ → ℕ) (heap : List Due)
+pub heap-alike : {S : SetupView} {core n : ℕ} {a b : ℕ → ℕ} {heap : List Due} → IsSetup S
     → ((other : ℕ) → other < S.cores → other ≢ core → b other ≡ a other) → IsHeapAt S core n a heap → IsHeapAt S core n b heap
-heap-alike S is core n a b heap same h = record {
+heap-alike {S} {core} {n} {a} {b} is same h = record {
   canonical = h.canonical;
   members = λ x. (
     (λ m. let d = (h.members x).0 m in (d.0, turn a b (λ o l d. same o l d) d.0 d.1, d.2)),
@@ -63,7 +63,7 @@ heap-alike S is core n a b heap same h = record {
             same (origin_of S v).core (origin-below S is v d.among) m.0 in
             inr (m.0, omega (arith, l, e))
 
-module _ (S : SetupView) (is : IsSetup S) (core n : ℕ) (told : List Told) (are : AreTold S core n told) where
+module _ {S : SetupView} {core n : ℕ} {told : List Told} (is : IsSetup S) (are : AreTold S core n told) where
   -- the notes for a core are those that are told it
   told-to : (j : ℕ) (note : Note) → Among note (notes_for told j) ↔ Among (record { receiver = j; note = note }) told
   told-to j note = (there, back)
@@ -173,7 +173,7 @@ module _ (S : SetupView) (is : IsSetup S) (core n : ℕ) (told : List Told) (are
       let same : d.last ≡ t.4.last = cc in
       t.2 (sym t.4.owner ∙ ap (λ (v : Visit). owner_of S v.pipe) (sym same) ∙ d.owner)
 
-  module _ (bytes : List (List ℕ)) (e : EntrantsView)
+  module _ {bytes : List (List ℕ)} (e : EntrantsView)
       (settled : AreSettled S bytes core (WasDecidedBy S core n (λ other. n)) e.settled e.store) where
     -- so its payload is held
     own-held : (p : PacketPlan) → IsDecided S core core n p → IsSome (fin.get e.store.held p.number)
@@ -252,16 +252,16 @@ module _ (S : SetupView) (is : IsSetup S) (core n : ℕ) (told : List Told) (are
           let p = for-own (Settle packet fate) m in (p.0, record { among = p.1.among; entered = p.1.entered }, p.2)
 
   -- the least tick that the core knows of
-  pub least-now : (heap : List Due) (least : Option ℕ) → IsHeapAt S core n (λ other. n) heap → IsLeastBy (IsToldTick core told) least
+  pub least-now : {heap : List Due} (least : Option ℕ) → IsHeapAt S core n (λ other. n) heap → IsLeastBy (IsToldTick core told) least
       → IsLeastKnown S core n (earlier_of (option_map (λ due. due.tick) (slice_get heap 0)) least)
-  least-now heap least h l =
+  least-now {heap} least h l =
       least-known S is core n heap told h told-other _
       (least-both (IsDueTick heap) (IsToldTick core told) (option_map (λ due. due.tick) (slice_get heap 0)) least (heap-least heap h.canonical) l)
 
   -- and the parcel for another core
-  pub parcel-now : (j : ℕ) → j ≢ core → (least : Option ℕ) → IsLeastKnown S core n least → (p : ParcelView)
+  pub parcel-now : {j : ℕ} → j ≢ core → {least : Option ℕ} → IsLeastKnown S core n least → {p : ParcelView}
       → IsParcelOf (notes_for told j) least p → IsParcel S core j n p
-  parcel-now j other least known p i = record {
+  parcel-now {j} other known {p} i = record {
     rises = i.rises;
     notes = λ note. (
       (λ a. (for-other j note other).0 (among-permuted note p.notes (notes_for told j) (IsPermutation-sym (notes_for told j) p.notes i.same) a)),

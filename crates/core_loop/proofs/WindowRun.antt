@@ -8,7 +8,7 @@ use Rattle.parcel.specs.Laws.{Starts}
 use Rattle.core_loop.specs.declared.one_core.Core.TheInside.{Inside}
 use Rattle.core_loop.specs.Inside.{core_view, IsCore}
 use Rattle.core_loop.specs.Handing.{IsToHandOut, IsToSettle, parts_view, SameWindows}
-use Rattle.core_loop.specs.CoreView.{CoreView, windows_of, taken_of}
+use Rattle.core_loop.specs.CoreView.{CoreView, windows_of}
 use Rattle.core_loop.specs.WorldState.{CoreStands}
 use Rattle.core_loop.specs.Turns.{HasTradedAll}
 use Rattle.core_loop.specs.Work.{WorkView, Runs, HasRun, IsEnd, StaysAtWork}
@@ -54,8 +54,7 @@ module _ (c : CoreView) (w : WorkView) (i : IsWorkOf c w) where
 
       rests : Rests (λ other. windows_of c + 1) of_core
       rests = record {
-        heap_is = heap-alike c.setup i.is_setup c.number (windows_of c) (taken_of c) (λ other. windows_of c + 1) c.heap
-            (λ other l d. sym (t.takes other (l, d))) s.knows.heap;
+        heap_is = heap-alike i.is_setup (λ other l d. sym (t.takes other (l, d))) s.knows.heap;
         pipes_have_run = record { pipes_are = s.works.pipes; counts_are = s.works.pipe_counts };
         visits = ap (λ (x : CoreCounts). x.visits) s.works.counts;
       }
@@ -86,60 +85,86 @@ module _ (c : CoreView) (w : WorkView) (i : IsWorkOf c w) where
 
 -- ---- in the fields of a core
 
-module _ (c : Inside) (k : IsCore c) (works : c.failed ≡ false) where
+-- a core that can run its window: it has made all posts and takes of the round, and the window starts there
+pub record IsAtWindow (c : Inside) (start : ℕ) : Type 0 where
+  pub core : IsCore c
+  pub works : c.failed ≡ false
+  pub traded : HasTradedAll (core_view c)
+  pub starts : Starts c.setup.now c.work.counts.windows start
+
+-- the same by what contracts see of the core, now
+pub at-window : {c : Inside} {now : CoreView} {start : ℕ} → IsCore c → core_view c ≡ now → now.failed ≡ false → HasTradedAll now
+    → Starts now.setup (windows_of now) start → IsAtWindow c start
+at-window {c} {now} {start} core is works traded starts = record {
+  core = core;
+  works = ap (λ (v : CoreView). v.failed) is ∙ works;
+  traded = subst HasTradedAll (sym is) traded;
+  starts = subst (λ (v : CoreView). Starts v.setup (windows_of v) start) (sym is) starts;
+}
+
+-- the core has run its window, and v is its work then
+pub record HasRunWindow (c : Inside) (start : ℕ) (v : WorkView) : Type 0 where
+  pub before : IsAtWindow c start
+  pub run : HasRun v
+  pub stays : StaysAtWork c.work v
+
+module _ {c : Inside} {start : ℕ} (a : IsAtWindow c start) where
   work-of : IsWorkOf (core_view c) c.work
   work-of = record {
-    is_setup = k.is_setup;
-    same_setup = k.same_setup;
-    same_number = k.same_number;
+    is_setup = a.core.is_setup;
+    same_setup = a.core.same_setup;
+    same_number = a.core.same_number;
     same_heap = refl;
     same_pipes = refl;
     same_counts = refl;
-    none_told = k.none_told works;
+    none_told = a.core.none_told a.works;
   }
 
-  module _ (traded : HasTradedAll (core_view c)) (start : ℕ) (starts : Starts c.setup.now c.work.counts.windows start) where
-    pub can-run : Runs c.work
-    can-run = let s = k.stands works in begun (core_view c) c.work work-of s.0 s.1 traded start starts
+  pub can-run : Runs c.work
+  can-run = let s = a.core.stands a.works in begun (core_view c) c.work work-of s.0 s.1 a.traded start a.starts
 
-    pub its-end : IsEnd c.work (start + c.lookahead)
-    its-end = ends-later (core_view c) c.work work-of start c.lookahead starts k.lookahead
+  pub its-end : IsEnd c.work (start + c.lookahead)
+  its-end = ends-later (core_view c) c.work work-of start c.lookahead a.starts a.core.lookahead
 
-    pub end-is-few : start + c.lookahead < 2 ^ 64
-    end-is-few = let l : start + lookahead_of c.setup.now < 2 ^ 64 = end-fits c.setup.now k.is_setup c.work.counts.windows start starts in
-        let e : c.lookahead ≡ lookahead_of c.setup.now = k.lookahead in
-        omega (arith, l, e)
+  pub end-is-few : start + c.lookahead < 2 ^ 64
+  end-is-few =
+      let l : start + lookahead_of c.setup.now < 2 ^ 64 = end-fits c.setup.now a.core.is_setup c.work.counts.windows start a.starts in
+      let e : c.lookahead ≡ lookahead_of c.setup.now = a.core.lookahead in
+      omega (arith, l, e)
 
-    -- once it is run
-    module _ (v : WorkView) (run : HasRun v) (stays : StaysAtWork c.work v) where
-      windows-is : v.counts.windows ≡ c.work.counts.windows
-      windows-is = ap (λ (x : CoreCounts). x.windows) stays.same_counts
+module _ {c : Inside} {start : ℕ} {v : WorkView} (r : HasRunWindow c start v) where
+  pub windows-few : v.counts.windows < 2 ^ 28
+  windows-few =
+      let l : c.work.counts.windows < 2 ^ 28 =
+      number-few c.setup.now r.before.core.is_setup c.work.counts.windows start r.before.starts in
+      let e : v.counts.windows ≡ c.work.counts.windows = ap (λ (x : CoreCounts). x.windows) r.stays.same_counts in
+      omega (arith, l, e)
 
-      pub windows-few : v.counts.windows < 2 ^ 28
-      windows-few = let l : c.work.counts.windows < 2 ^ 28 = number-few c.setup.now k.is_setup c.work.counts.windows start starts in
-          let e = windows-is in
-          omega (arith, l, e)
+  from : HasRunFrom (core_view c) v
+  from =
+      from-core (core_view c) c.work (work-of r.before) v r.run r.stays r.before.core.known r.before.core.one_peer_each
+      r.before.traded start r.before.starts
 
-      from : HasRunFrom (core_view c) v
-      from = from-core (core_view c) c.work work-of v run stays k.known k.one_peer_each traded start starts
+  -- the window is counted: u is the work then
+  module _ {u : WorkView} (next : u ≡ with_window v) where
+    -- what comes of the window is to be handed out
+    pub to-hand-out : IsToHandOut u c.peers.items
+    to-hand-out =
+        let s = r.before.core.stands r.before.works in
+        subst (λ (w : WorkView). IsToHandOut w c.peers.items) (sym next) (ran (core_view c) v from s.0 s.1)
 
-      -- what comes of it is to be handed out
-      pub to-hand-out : IsToHandOut (with_window v) c.peers.items
-      to-hand-out = let s = k.stands works in ran (core_view c) v from s.0 s.1
+    pub to-settle : (bytes : List (List ℕ)) → CoreStands bytes (core_view c) → IsToSettle bytes u c.entrants
+    to-settle bytes s = subst (λ (w : WorkView). IsToSettle bytes w c.entrants) (sym next) (ran-settled (core_view c) v from bytes s)
 
-      pub to-settle : (bytes : List (List ℕ)) → CoreStands bytes (core_view c) → IsToSettle bytes (with_window v) c.entrants
-      to-settle bytes s = ran-settled (core_view c) v from bytes s
+    pub some-to-settle : (bytes : List (List ℕ)) × IsToSettle bytes u c.entrants
+    some-to-settle = let s = r.before.core.stands r.before.works in (s.0, to-settle s.0 s.1)
 
-      pub some-to-settle : (bytes : List (List ℕ)) × IsToSettle bytes (with_window v) c.entrants
-      some-to-settle = let s = k.stands works in (s.0, to-settle s.0 s.1)
+    -- what is handed out changes neither setup nor number
+    pub setup-still : {w : WorkView} → SameWindows u w → w.setup ≡ c.setup.now
+    setup-still same = same.same_setup ∙ ap (λ (x : WorkView). x.setup) next ∙ r.stays.same_setup ∙ r.before.core.same_setup
 
-      -- what is handed out changes neither setup nor number
-      module _ (u w : WorkView) (next : u ≡ with_window v) (same : SameWindows u w) where
-        pub setup-still : w.setup ≡ c.setup.now
-        setup-still = same.same_setup ∙ ap (λ (x : WorkView). x.setup) next ∙ stays.same_setup ∙ k.same_setup
-
-        pub number-still : w.number ≡ c.number
-        number-still = same.same_number ∙ ap (λ (x : WorkView). x.number) next ∙ stays.same_number ∙ k.same_number
+    pub number-still : {w : WorkView} → SameWindows u w → w.number ≡ c.number
+    number-still same = same.same_number ∙ ap (λ (x : WorkView). x.number) next ∙ r.stays.same_number ∙ r.before.core.same_number
 
 -- a core of parts that stand
 pub of-parts : (c : Inside) → c.work.setup ≡ c.setup.now → c.work.number ≡ c.number → c.failed ≡ false

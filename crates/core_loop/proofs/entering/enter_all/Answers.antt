@@ -26,8 +26,7 @@ enter-requires-clause-can c =
     let i = c.loop-plan.plan-index in
     let packets = c.deref-plan-items.ensures.value ∙ ap (λ (s : SetupView). s.packets) (c.behind-setup.view_is ∙ c.parts.ensures.same) in
     let plan = slice_index_or items i no_plan in
-    entering-can c.args.setup.now c.number-number.result c.args.setup.now.packets i c.args.work.now c.loop-plan.work c.args.entrants.now
-    c.loop-plan.entrants plan c.loop-plan.invariant (let long = ap length packets in omega (arith, c.loop-plan-test.true, long))
+    entering-can c.loop-plan.invariant (let long = ap length packets in omega (arith, c.loop-plan-test.true, long))
     (get_or_default items i no_plan plan c.loop-plan-test.true ∙ ap (λ (ps : List PacketPlan). slice_index_or ps i plan) packets)
     c.if-plan-number.true
 
@@ -35,8 +34,11 @@ pub loop-plan-preserved : goal.loop-plan-preserved
 loop-plan-preserved c =
     let S = c.args.setup.now in
     let core = c.number-number.result in
+    let v = c.args.work.now in
+    let d = c.args.entrants.now in
     let items = c.deref-plan-items.result.now in
     let i = c.loop-plan.plan-index in
+    let h = c.loop-plan.invariant in
     let packets = c.deref-plan-items.ensures.value ∙ ap (λ (s : SetupView). s.packets) (c.behind-setup.view_is ∙ c.parts.ensures.same) in
     let plan = slice_index_or items i no_plan in
     let within : i < length S.packets = (let long = ap length packets in omega (arith, c.loop-plan-test.true, long)) in
@@ -45,15 +47,11 @@ loop-plan-preserved c =
     let among = plan-among S items i packets c.loop-plan-test.true in
     elim c.if-plan-number.branch [
       | then-plan-number+in_ok-enter w ↦
-          subst (λ (u : WorkView). IsEntering S core S.packets (i + 1) c.args.work.now u c.args.entrants.now c.if-plan-number.entrants) (sym w.work-is)
-          (subst (λ (f : EntrantsView). IsEntering S core S.packets (i + 1) c.args.work.now w.enter.new.work c.args.entrants.now f) (sym w.entrants-is)
-          (entering-more S core S.packets i c.args.work.now c.loop-plan.work w.enter.new.work c.args.entrants.now c.loop-plan.entrants
-          w.enter.new.entrants plan c.loop-plan.invariant within is among
-          (inl (w.if-plan-number.true ∙ sym c.loop-plan.invariant.same_number, w.in_ok-enter.ensures))))
+          subst (λ (u : WorkView). IsEntering S core S.packets (i + 1) v u d c.if-plan-number.entrants) (sym w.work-is)
+          (subst (λ (f : EntrantsView). IsEntering S core S.packets (i + 1) v w.enter.new.work d f) (sym w.entrants-is)
+          (entering-more h within is among (inl (w.if-plan-number.true ∙ sym h.same_number, w.in_ok-enter.ensures))))
       | else-plan-number w ↦
-          subst (λ (u : WorkView). IsEntering S core S.packets (i + 1) c.args.work.now u c.args.entrants.now c.if-plan-number.entrants) (sym w.work-is)
-          (subst (λ (f : EntrantsView). IsEntering S core S.packets (i + 1) c.args.work.now c.loop-plan.work c.args.entrants.now f) (sym w.entrants-is)
-          (entering-more S core S.packets i c.args.work.now c.loop-plan.work c.loop-plan.work c.args.entrants.now c.loop-plan.entrants
-          c.loop-plan.entrants plan c.loop-plan.invariant within is among
-          (inr ((λ e. w.if-plan-number.false (e ∙ c.loop-plan.invariant.same_number)), refl, refl))))
+          subst (λ (u : WorkView). IsEntering S core S.packets (i + 1) v u d c.if-plan-number.entrants) (sym w.work-is)
+          (subst (λ (f : EntrantsView). IsEntering S core S.packets (i + 1) v c.loop-plan.work d f) (sym w.entrants-is)
+          (entering-more h within is among (inr ((λ e. w.if-plan-number.false (e ∙ h.same_number)), refl, refl))))
     ]

@@ -11,28 +11,24 @@ loop-other-preserved c =
     let least = c.args.least in
     let ps = c.args.peers.now.items in
     let i = c.loop-other.other in
+    let h = c.loop-other.invariant in
+    let new = c.replace-list.new.dest in
     let within : i < length ps = omega (arith, c.loop-other-test.true, c.len-other-end.ensures) in
-    let list = handing-list number first least ps i c.loop-other.peers.items c.loop-other.notes.items c.replace-list.result c.index_mut.result.now
-    c.loop-other.invariant (let e = c.loop-other.invariant.as_long in let n = c.requires.count in omega (arith, within, e, n))
-    c.index_mut.ensures.value c.replace-list.ensures.value in
+    let list = handing-list h (let e = h.as_long in let n = c.requires.count in omega (arith, within, e, n)) c.index_mut.ensures.value
+    c.replace-list.ensures.value in
     elim c.if-other-number.branch [
       | then-other-number w ↦
-          subst (λ v. IsHanding number first least ps (i + 1) v.items (set c.loop-other.notes.items i c.replace-list.new.dest)) (sym w.peers-is)
-          (handing-own number first least ps i c.loop-other.peers.items c.loop-other.notes.items w.index_mut-then-other-number.result.now _
-          c.replace-list.new.dest c.loop-other.invariant within w.if-other-number.true w.index_mut-then-other-number.ensures.value
-          (ap (λ (p : PeerView). record p { least = least }) w.behind-peers.view_is))
+          subst (λ v. IsHanding number first least ps (i + 1) v.items (set c.loop-other.notes.items i new)) (sym w.peers-is)
+          (handing-own h within w.if-other-number.true w.index_mut-then-other-number.ensures.value
+          (ap (λ (p : PeerView). record p { least = least }) w.behind-peers.view_is) new)
       | else-other-number+in-Some-1 w ↦
-          subst (λ v. IsHanding number first least ps (i + 1) v.items (set c.loop-other.notes.items i c.replace-list.new.dest)) (sym w.peers-is)
-          (handing-other number first least ps i c.loop-other.peers.items c.loop-other.notes.items w.index_mut-else-other-number.result.now _
-          w.in_order.result c.replace-list.result.items c.replace-list.new.dest c.loop-other.invariant within w.if-other-number.false
-          w.index_mut-else-other-number.ensures.value
+          subst (λ v. IsHanding number first least ps (i + 1) v.items (set c.loop-other.notes.items i new)) (sym w.peers-is)
+          (handing-other h within w.if-other-number.false w.index_mut-else-other-number.ensures.value
           (ap (λ (p : PeerView). record p { owed = Some w.in_order.result }) w.behind-peers-else-other-number.view_is) list
-          (record { rises = w.in_order.ensures.rises; same = w.in_order.ensures.same; least_is = w.in_order.ensures.least }))
+          (record { rises = w.in_order.ensures.rises; same = w.in_order.ensures.same; least_is = w.in_order.ensures.least }) new)
       | else-other-number+in-None-1 w ↦
-          subst (λ v. IsHanding number first least ps (i + 1) v.items (set c.loop-other.notes.items i c.replace-list.new.dest)) (sym w.peers-is)
-          (handing-other number first least ps i c.loop-other.peers.items c.loop-other.notes.items w.index_mut-else-other-number.result.now _
-          w.in_order.result c.replace-list.result.items c.replace-list.new.dest c.loop-other.invariant within w.if-other-number.false
-          w.index_mut-else-other-number.ensures.value
+          subst (λ v. IsHanding number first least ps (i + 1) v.items (set c.loop-other.notes.items i new)) (sym w.peers-is)
+          (handing-other h within w.if-other-number.false w.index_mut-else-other-number.ensures.value
           (ap (λ (p : PeerView). record p { owed = Some w.in_order.result }) w.behind-peers-else-other-number.view_is) list
-          (record { rises = w.in_order.ensures.rises; same = w.in_order.ensures.same; least_is = w.in_order.ensures.least }))
+          (record { rises = w.in_order.ensures.rises; same = w.in_order.ensures.same; least_is = w.in_order.ensures.least }) new)
     ]

@@ -4,7 +4,6 @@ use Rattle.core_loop.proofs.handing.take_notes.Goals as goal
 
 pub loop-note-preserved : goal.loop-note-preserved
 loop-note-preserved c =
-    taking-more c.args.notes.now c.loop-note.note-index c.args.work.now c.loop-note.work c.take_note.new.work c.args.entrants.now
-    c.loop-note.entrants c.take_note.new.entrants _ c.loop-note.invariant c.loop-note-test.true
+    taking-more c.loop-note.invariant c.loop-note-test.true
     (get_or_default c.args.notes.now c.loop-note.note-index _ _ c.loop-note-test.true) c.in_ok-take_note.ensures.taken
     c.in_ok-take_note.ensures.same

@@ -13,7 +13,6 @@ loop-other-preserved g c = record {
       Swept g.P.Ports.keeps g.P.Ports.busy OwesPost c.args.ports.now c.args.self.now c.post_one.new.ports c.post_one.new.self
       (c.loop-other.other + 1) s)
       (sym c.and-sweep.ensures)
-      (swept-more g.P.Ports.keeps g.P.Ports.busy OwesPost g.met.P.Ports.keeps_refl g.met.P.Ports.keeps_trans c.args.ports.now c.args.self.now
-      c.loop-other.ports c.loop-other.self c.post_one.new.ports c.post_one.new.self c.loop-other.other c.loop-other.sweep c.post_one.result
-      c.loop-other.invariant.swept c.post_one.ensures.keeps c.post_one.ensures.comes);
+      (swept-more g.met.P.Ports.keeps_trans g.met.P.Ports.keeps_refl c.loop-other.invariant.swept c.post_one.result
+      c.post_one.ensures.keeps c.post_one.ensures.comes);
 }

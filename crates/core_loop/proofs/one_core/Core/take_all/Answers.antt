@@ -15,7 +15,6 @@ loop-other-preserved g c = record {
       Swept g.P.Ports.keeps g.P.Ports.empty OwesTake c.args.ports.now c.args.self.now c.take_one.new.ports c.take_one.new.self
       (c.loop-other.other + 1) s)
       (sym c.and-sweep.ensures)
-      (swept-more g.P.Ports.keeps g.P.Ports.empty OwesTake g.met.P.Ports.keeps_refl g.met.P.Ports.keeps_trans c.args.ports.now c.args.self.now
-      c.loop-other.ports c.loop-other.self c.take_one.new.ports c.take_one.new.self c.loop-other.other c.loop-other.sweep _
-      c.loop-other.invariant.swept c.take_one.ensures.keeps c.in_ok-take_one.ensures.comes);
+      (swept-more g.met.P.Ports.keeps_trans g.met.P.Ports.keeps_refl c.loop-other.invariant.swept _ c.take_one.ensures.keeps
+      c.in_ok-take_one.ensures.comes);
 }
