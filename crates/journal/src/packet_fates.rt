@@ -15,8 +15,9 @@ use std::alloc::Global;
 pub fn fates(alloc: Global, setup: &Setup) -> Result<Vec<Fate>, NoMemory>
     ensures { IfOk result (λ fates. fates.items ≡ map (fate_of setup.now) setup.now.packets) }
 {
-    let mut maker = Maker::start(alloc, setup)?;
+    // The fates first: what the maker gives back at the end then lies together, and is used again by what comes after.
     let mut fates = entry_fates(alloc, setup)?;
+    let mut maker = Maker::start(alloc, setup)?;
     while let Some(next) = maker.due.pop() {
         let visit = maker.make(alloc, setup, next)?;
         fates[next.index as usize] = visit_fate(visit);
