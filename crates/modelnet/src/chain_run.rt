@@ -78,8 +78,9 @@ fn chain_outcome(alloc: Global, setup: &Setup, packets: Vec<Packet>) -> Result<O
     requires { length packets.items ≡ length setup.now.packets }
     ensures { IfOk result (IsOutcome setup.now (journal_of setup.now) (map (λ p. p.bytes) packets.items)) }
 {
-    let bytes = packet_bytes(alloc, packets)?;
+    // The bytes after the fates: they then lie where the maker of the fates had its first visits.
     let fates = fates(alloc, setup)?;
+    let bytes = packet_bytes(alloc, packets)?;
     gather(alloc, setup, &fates, bytes)
 }
 
