@@ -82,7 +82,8 @@ module _ (c : CoreView) (is : IsSetup c.setup) where
     visits = λ v a own. (let l : window_of c.setup v.tick < window_count c.setup = in-count v a in
         let n : windows_of c ≡ window_count c.setup = d.windows in
         omega (arith, l, n));
-    settled = released;
+    settled = λ p e. s.settles.all p e (all-decided d p e);
+    released = released;
     store = λ packet. empty packet (fin.get c.store.held packet) refl;
   }
     where

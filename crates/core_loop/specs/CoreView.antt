@@ -17,7 +17,7 @@ pub record PeerView : Type 0 where
   pub taken : ℕ
   -- the parcel that is still to be posted to it
   pub owed : Option ParcelView
-  -- the least tick of which it knew as it made its parcels last
+  -- of another core, the least tick in the parcel that was taken last; of itself, the least of which it knew as it made its parcels last
   pub least : Option ℕ
 
 pub record CoreView : Type 0 where

@@ -1,6 +1,6 @@
 -- What a turn of a core says: what it still owes in its round, when it is done, and what it found at its ports.
-use Rattle.std.specs.Prelude.{◌≡◌, ℕ, ◌+◌, ◌<◌, ◌≤◌, ◌⊎◌, List, length, filter, ◌==◌, true, None}
-use Rattle.std.specs.FinMap as map
+use Rattle.std.specs.Prelude.{◌≡◌, ℕ, ◌+◌, ◌<◌, ◌≤◌, ◌⊎◌, List, length, map, filter, ◌==◌, true, None}
+use Rattle.std.specs.FinMap as fin
 use Rattle.mn_base.specs.Among.{Among}
 use Rattle.journal.specs.declared.setup.PacketPlan.{PacketPlan}
 use Rattle.journal.specs.declared.visit.Visit.{Visit}
@@ -64,12 +64,13 @@ pub record IsCoreDone (c : CoreView) : Type 0 where
   pub trades : HasTradedAll c
   pub leasts : (core : ℕ) → core < c.setup.cores → (peer_at c core).least ≡ None
 
--- nothing is left: every visit of its pipes is in a window that it has run, every packet that entered there is settled, and its store
--- holds nothing
+-- nothing is left: every visit of its pipes is in a window that it has run, every packet that entered there is settled and
+-- released, and its store holds nothing
 pub record HasEnded (c : CoreView) : Type 0 where
   pub visits : (v : Visit) → Among v (journal_of c.setup) → owner_of c.setup v.pipe ≡ c.number → window_of c.setup v.tick < windows_of c
-  pub settled : (p : PacketPlan) → Enters c.setup c.number p → Among p.number c.store.released
-  pub store : (packet : ℕ) → map.get c.store.held packet ≡ None
+  pub settled : (p : PacketPlan) → Enters c.setup c.number p → Among p.number (map (λ t. t.packet) c.settled)
+  pub released : (p : PacketPlan) → Enters c.setup c.number p → Among p.number c.store.released
+  pub store : (packet : ℕ) → fin.get c.store.held packet ≡ None
 
 -- between two states of the ports in this turn, a port refused
 abbrev pub RefusedBetween : {P : Type 0} → (P → P → Type 0) → (P → ℕ → P → Type 0) → P → ℕ → P → Type 0

@@ -10,7 +10,8 @@ pub(crate) struct Peer {
     pub taken: u64,
     /// The parcel that is still to be posted to it.
     pub owed: Option<Parcel>,
-    /// The least tick of which it knew as it made its parcels last; none where it knew of none.
+    /// Of another core, the least tick in the parcel that was taken last; of itself, the least of which it knew as it made its parcels
+    /// last. None where there is none.
     pub least: Option<u64>,
 }
 

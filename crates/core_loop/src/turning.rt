@@ -12,8 +12,8 @@ use std::alloc::Global;
 
 /// The turns of a core.
 impl<'s> Core<'s> {
-    /// Does all that it can over these ports: posts what is owed, takes what is there, and where all is posted and taken runs the
-    /// window and goes on with the next round, until nothing moves. It waits for nothing.
+    /// One pass over these ports: it posts what is owed where a port takes it, and takes what is there. Where all is posted and taken it
+    /// runs the window and goes on with the next round; it ends where a post or take is missing, or all is done. It waits for nothing.
     pub fn turn<P: Ports>(&mut self, alloc: Global, ports: &mut P) -> Turn
         // The ports are of this setup and core, and stand where the core's own counts stand.
         requires { StandAt P.setup P.core P.posted P.taken ports.old self.old }
@@ -61,7 +61,8 @@ impl<'s> Core<'s> {
         }
     }
 
-    /// Runs the window of the round, whose posts and takes are all made, and goes on with the next rounds until nothing moves.
+    /// Runs the window of the round, whose posts and takes are all made, and goes on with the next rounds until a post or take of one is
+    /// missing, or all is done.
     fn go_on<P: Ports>(&mut self, alloc: Global, ports: &mut P) -> Turn
         requires stand { StandAt P.setup P.core P.posted P.taken ports.old self.old }
         requires works { self.old.failed ≡ false }

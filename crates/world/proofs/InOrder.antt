@@ -1,11 +1,11 @@
 -- Cores that are turned one after the other.
 use Rattle.std.proofs.Common.{◌≡◌, ◌⊎◌, inl, inr, ℕ, true, false, List, [], ◌∷◌, ◌++◌, refl, sym, ◌∙◌, subst}
 use Rattle.world.specs.WorldView.{WorldView}
-use Rattle.world.specs.Worlds.{WorldStands, WorldStillStands, Turned, TurnedBy}
+use Rattle.world.specs.Worlds.{WorldStands, WorldStillStands, TurnedTo, TurnedBy}
 
 -- one turn more
-pub turned-more : (order : List ℕ) (core : ℕ) (w m x : WorldView) → TurnedBy order w m → Turned core m x → TurnedBy (order ++ core ∷ []) w x
-turned-more [] core w m x same turned = (x, subst (λ (z : WorldView). Turned core z x) same turned, refl)
+pub turned-more : (order : List ℕ) (core : ℕ) (w m x : WorldView) → TurnedBy order w m → TurnedTo core m x → TurnedBy (order ++ core ∷ []) w x
+turned-more [] core w m x same turned = (x, subst (λ (z : WorldView). TurnedTo core z x) same turned, refl)
 turned-more (first ∷ order) core w m x rest turned = (rest.0, rest.1, turned-more order core rest.0 m x rest.2 turned)
 
 -- a world that stood still and didn't fail stands still after what comes then

@@ -6,7 +6,7 @@ use Rattle.parcel.specs.PlainBoxesView.{box_at, HasParcel, HasNoParcel}
 use Rattle.core_loop.specs.CoreView.{CoreView, windows_of, posted_of, taken_of, IsOtherCore}
 use Rattle.core_loop.specs.WorldState.{CoreStands}
 use Rattle.core_loop.specs.Turns.{NoCountFalls, HasMoved, OwesPost, OwesTake, HasTradedAll, IsCoreDone}
-use Rattle.world.specs.WorldView.{WorldView, IsCoreOf}
+use Rattle.world.specs.WorldView.{WorldView, IsCoreOf, IsWorld}
 
 -- ---- what the world keeps
 
@@ -47,10 +47,17 @@ pub record Turned (core : ℕ) (w x : WorldView) : Type 0 where
   pub rises : (c d : CoreView) → IsCoreOf w core c → IsCoreOf x core d → NoCountFalls c d
   pub moves : (c d : CoreView) → IsCoreOf w core c → IsCoreOf x core d → HasMoved c d ⊎ HasNoEvent w core c
 
+-- it has had its turn, and what came of it is a world that works and stands still
+pub record TurnedTo (core : ℕ) (w x : WorldView) : Type 0 where
+  pub turned : Turned core w x
+  pub is_world : IsWorld x
+  pub works : x.failed ≡ false
+  pub stands : WorldStillStands w x
+
 -- these cores have had their turns, in this order
 abbrev pub TurnedBy : List ℕ → WorldView → WorldView → Type 0
 TurnedBy [] w x = x ≡ w
-TurnedBy (core ∷ order) w x = (between : WorldView) × Turned core w between × TurnedBy order between x
+TurnedBy (core ∷ order) w x = (between : WorldView) × TurnedTo core w between × TurnedBy order between x
 
 -- every core is done
 pub record IsWorldDone (w : WorldView) : Type 0 where

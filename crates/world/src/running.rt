@@ -58,7 +58,8 @@ impl<'s> World<'s> {
             return Err(NoMemory);
         }
         for core in order {
-            if let Turn::NoMemory = self.turn(alloc, *core) {
+            let _turn = self.turn(alloc, *core);
+            if self.failed {
                 return Err(NoMemory);
             }
         }
