@@ -1,9 +1,10 @@
 -- A run with moves from one window to the next, and at its end.
 use Rattle.std.proofs.Common.{◌≡◌, ◌⊎◌, inl, inr, ℕ, zero, suc, ◌+◌, ◌<◌, ◌≤◌, ◌==◌, nat_lt, nat_le, ◌&&◌, Bool, true, false, cond, List, [], ◌∷◌, ◌++◌, length, filter, map, take, Some, slice_get, slice_index, slice_index_or, AllPairs, length-append, refl, sym, ap, ap₂, ◌∙◌, subst, arith}
-use Rattle.std.specs.Prelude.{fold}
+use Rattle.std.specs.Prelude.{fold, option_map}
 use Rattle.std.specs.List.{AllZip, range_with_len}
 use Rattle.std.proofs.lemmas.Bool.{lt-ltb, le-ltb, le-leb, lt-leb, leb-true, ltb-true, and_left, and_parts, cases_lt}
-use Rattle.std.proofs.lemmas.Option.{slice_get_within}
+use Rattle.std.proofs.lemmas.List.{length-map}
+use Rattle.std.proofs.lemmas.Option.{slice_get_within, slice_get-map}
 use Rattle.mn_base.specs.Among.{Among}
 use Rattle.mn_base.proofs.Members.{Among-from-filter}
 use Rattle.journal.specs.declared.visit.Visit.{Visit}
@@ -26,8 +27,8 @@ use Rattle.migrate.specs.declared.moves.Move.{Move}
 use Rattle.migrate.specs.ShelvesView.{ShelfView, ShelvesView, IsShelfOf}
 use Rattle.migrate.specs.Windows.{visits_before, visits_within, visits_of_core}
 use Rattle.migrate.specs.Standing.{HaveRunAll, RunsWindow, window_len}
-use Rattle.migrate.specs.Finishing.{AreCoreCounts}
-use Rattle.migrate.specs.Moves.{moved_owners, owners_in, len_in, IsStart, HasWindows, IsRunBy, moves_below, Moves}
+use Rattle.migrate.specs.Finishing.{core_counts_of, AreCoreCounts}
+use Rattle.migrate.specs.Moves.{moved_owners, owners_in, len_in, IsStart, HasWindows, IsRunBy, moves_below, Moves, counts_with_moves, AreCountsWithMoves}
 use Rattle.migrate.specs.UnderWay.{EndsAt, times, HasCome, HaveMovedAll, SameButPlaces}
 use Rattle.migrate.proofs.Finished.{all-before}
 use Rattle.migrate.proofs.OneRun.{start-one}
@@ -293,6 +294,36 @@ module _ (S : SetupView) (is : IsSetup S) (moves : List Move) (n : ℕ) (w : She
           (e 0 c refl ∙ ap (λ (m : ℕ). times m h.cores) (omega arith))
           (by-core cs (from + 1) many (omega (arith, l))
           (λ k d f. e (suc k) d f ∙ ap (λ (m : ℕ). times m h.cores) (omega arith)))
+
+  -- what each core did
+  pub are-counts : (cores : List CoreCounts) → AreCoreCounts w cores → length w.shelves ≡ S.cores → w.owners ≡ owners_in S moves n
+      → AreCountsWithMoves S moves n (map (λ c. c.visits) cores) cores
+  are-counts cores are as_many owners = record {
+    one_a_core = many;
+    visits_each = length-map cores (λ (c : CoreCounts). c.visits) ∙ many;
+    each = each;
+  }
+    where
+      many : length cores ≡ S.cores
+      many = are.one_a_core ∙ ap (λ (T : SetupView). T.cores) h.setup
+
+      some-visits : {m k : ℕ} → Some m ≡ Some k → m ≡ k
+      some-visits e = cc
+
+      each : (core ran : ℕ) → slice_get (map (λ c. c.visits) cores) core ≡ Some ran
+          → slice_get cores core ≡ Some (counts_with_moves S moves n core ran)
+      each core ran e =
+          let s = at-within w.shelves core
+          (let l = slice_get_within (map (λ (c : CoreCounts). c.visits) cores) core ran e in
+          omega (arith, l, length-map cores (λ (c : CoreCounts). c.visits), many, as_many)) in
+          let here : slice_get cores core ≡ Some (core_counts_of w.setup w.owners w.windows core s.0) = are.each core s.0 s.1 in
+          let visits : s.0.visits ≡ ran =
+          some-visits (sym (slice_get-map (λ (c : CoreCounts). c.visits) cores core ∙ ap (option_map (λ (c : CoreCounts). c.visits)) here) ∙ e) in
+          here
+          ∙ ap (λ (T : SetupView). Some (core_counts_of T w.owners w.windows core s.0)) h.setup
+          ∙ ap (λ (l : List ℕ). Some (core_counts_of S l w.windows core s.0)) owners
+          ∙ ap (λ (k : ℕ). Some (core_counts_of S (owners_in S moves n) k core s.0)) h.windows_are
+          ∙ ap (λ (v : ℕ). Some (counts_with_moves S moves n core v)) visits
 
 -- ---- the owners in a window
 

@@ -1,10 +1,11 @@
 -- Runs in which pipes move to other cores between windows: who owns the pipes in each window, where windows start, and which core runs
 -- each visit.
-use Rattle.std.specs.Prelude.{◌≡◌, ℕ, zero, suc, ◌+◌, ◌<◌, ◌≤◌, ◌==◌, nat_lt, nat_le, List, length, map, filter, fold, slice_index, slice_set}
+use Rattle.std.specs.Prelude.{◌≡◌, ℕ, zero, suc, ◌+◌, ◌<◌, ◌≤◌, ◌==◌, nat_lt, nat_le, List, length, map, filter, fold, Some, slice_get, slice_index, slice_set}
 use Rattle.std.specs.List.{AllZip, range_with_len}
 use Rattle.journal.specs.declared.visit.Visit.{Visit}
 use Rattle.journal.specs.SetupView.{SetupView}
 use Rattle.journal.specs.Journal.{journal_of}
+use Rattle.parcel.specs.declared.counts.CoreCounts.{CoreCounts}
 use Rattle.parcel.specs.Lookahead.{lookahead_of}
 use Rattle.parcel.specs.Laws.{IsLeastFrom}
 use Rattle.parcel.specs.Owners.{owned_by}
@@ -61,6 +62,25 @@ pub record Moves (S : SetupView) (moves : List Move) (windows moved : ℕ) (visi
   pub cores : List ℕ
   pub run_by : AllZip (IsRunBy S moves) (journal_of S) cores
   pub visits_are : visits ≡ visits_each S.cores cores
+
+-- what a core did in a run of so many windows with these moves, where it ran so many visits: the pipes that it owns at the end, the
+-- packets that entered there, its visits, no notes to others, and the windows
+abbrev pub counts_with_moves : SetupView → List Move → ℕ → ℕ → ℕ → CoreCounts
+counts_with_moves S moves windows core visits = record {
+  pipes = length (filter (λ owner. owner == core) (owners_in S moves windows));
+  entered = length (filter (λ p. p.core == core) S.packets);
+  visits = visits;
+  arrivals = 0;
+  settles = 0;
+  windows = windows;
+}
+
+-- these are the counts of all cores, in core order, where each ran so many visits
+pub record AreCountsWithMoves (S : SetupView) (moves : List Move) (windows : ℕ) (visits : List ℕ) (cores : List CoreCounts) : Type 0 where
+  pub one_a_core : length cores ≡ S.cores
+  pub visits_each : length visits ≡ S.cores
+  pub each : (core many : ℕ) → slice_get visits core ≡ Some many
+      → slice_get cores core ≡ Some (counts_with_moves S moves windows core many)
 
 -- a run with these moves comes to one thing
 abbrev pub MovesAreOne : SetupView → Type 0

@@ -4,7 +4,7 @@ ghost use Rattle.journal.specs.Journal.{journal_of};
 ghost use Rattle.core_loop.specs.Stocked.{AreStores, AreBytesIn};
 ghost use Rattle.settle.specs.IsOutcome.{IsOutcome};
 ghost use Rattle.migrate.specs.Standing.{StillStand, HaveRunNothing, HaveRunAll};
-ghost use Rattle.migrate.specs.Moves.{moves_below, Moves};
+ghost use Rattle.migrate.specs.Moves.{moves_below, owners_in, Moves, AreCountsWithMoves};
 ghost use Rattle.migrate.specs.UnderWay.{DoStand, HasCome, HaveMoved, HaveMovedAll, SameButPlaces};
 
 use crate::shelves::Shelves;
@@ -59,6 +59,7 @@ pub fn run_moves(
     ensures outcome { IfOk result (λ ran. (bytes : List (List ℕ)) → AreBytesIn setup.now stores.items bytes
         → IsOutcome setup.now (journal_of setup.now) bytes ran.outcome) }
     ensures moves { IfOk result (λ ran. Moves setup.now moves.now ran.windows ran.moved ran.visits) }
+    ensures counts { IfOk result (λ ran. AreCountsWithMoves setup.now moves.now ran.windows ran.visits ran.outcome.cores) }
 {
     let _parts = setup.parts();
     let mut shelves = Shelves::start(alloc, setup, stores)?;
@@ -83,6 +84,7 @@ fn run_all(alloc: Global, shelves: &mut Shelves, moves: &[Move]) -> Result<u64, 
     requires cores { All (λ m. m.core < shelves.old.setup.cores) moves.now }
     requires order { AllPairs (λ m n. m.window ≤ n.window) moves.now }
     ensures come { IfOk result (λ windows. HasCome shelves.old.setup moves.now windows shelves.new) }
+    ensures owners { IfOk result (λ windows. shelves.new.owners ≡ owners_in shelves.old.setup moves.now windows) }
     ensures all { OnOk result (HaveRunAll shelves.new) }
     ensures stands { OnOk result (DoStand shelves.new) }
     ensures still { OnOk result (StillStand shelves.old shelves.new) }

@@ -99,7 +99,7 @@ impl<'s> Shelves<'s> {
         ensures stands { OnOk result (StillStand self.old self.new) }
         ensures works { OnOk result (self.new.failed ≡ false) }
 
-        // Out of memory: the windows are those that were run before, and no later call goes on.
+        // Out of memory: the end of the last window is what it was, and no later call goes on.
         ensures end { self.new.end ≡ self.old.end }
         ensures failed { OnErr result (self.new.failed ≡ true) }
         ensures failed_before { self.old.failed ≡ true → OnOk result ⊥ }

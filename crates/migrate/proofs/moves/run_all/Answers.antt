@@ -1,10 +1,11 @@
-use Rattle.std.proofs.Common.{◌≡◌, ◌+◌, sym, subst, arith}
+use Rattle.std.proofs.Common.{◌≡◌, ◌+◌, sym, ap, ◌∙◌, subst, arith}
 use Rattle.std.proofs.lemmas.Bool.{MatchBool-at_true, MatchBool-at_false}
 use Rattle.journal.specs.SetupView.{SetupView}
+use Rattle.migrate.specs.ShelvesView.{ShelvesView}
 use Rattle.migrate.specs.Standing.{HaveRunAll, RunsWindow}
 use Rattle.migrate.specs.UnderWay.{HasCome, HaveMovedAll}
 use Rattle.migrate.proofs.MovesMade.{moved-later}
-use Rattle.migrate.proofs.UnderWay.{come-moved}
+use Rattle.migrate.proofs.UnderWay.{come-moved, owners-made}
 use Rattle.migrate.proofs.WindowsRun.{stand-then, run-come, few-then, few-fit}
 use Rattle.migrate.proofs.moves.run_all.Goals as goal
 use Rattle.migrate.proofs.moves.run_all.Goals.{Then-not-branch, Else-not-branch}
@@ -18,6 +19,13 @@ returns-then-not-branch-clause-come c =
     subst (HasCome c.args.shelves.now.setup c.args.moves.now c.windows.windows) (stays c)
     (come-moved c.args.shelves.now.setup c.args.moves.now c.windows.windows c.windows.shelves c.move_due.new.shelves
     c.windows.invariant.come c.in_ok-next.ensures.same)
+
+pub returns-then-not-branch-clause-owners : goal.returns-then-not-branch-clause-owners
+returns-then-not-branch-clause-owners c =
+    ap (λ (w : ShelvesView). w.owners) (sym (stays c))
+    ∙ owners-made c.args.shelves.now.setup c.args.moves.now c.in_ok-next.next c.windows.windows c.move_due.new.shelves c.requires.order
+    (subst (λ (S : SetupView). HaveMovedAll S c.args.moves.now c.in_ok-next.next c.windows.windows c.move_due.new.shelves)
+    c.windows.invariant.come.setup c.in_ok-next.ensures.moved)
 
 pub returns-then-not-branch-clause-all : goal.returns-then-not-branch-clause-all
 returns-then-not-branch-clause-all c =
