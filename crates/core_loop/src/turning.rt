@@ -12,7 +12,7 @@ use std::alloc::Global;
 
 /// The turns of a core.
 impl<'s> Core<'s> {
-    /// One pass over these ports: it posts what is owed where a port takes it, and takes what is there. Where all is posted and taken it
+    /// One pass for each round over these ports: it posts what is owed where a port takes it, and takes what is there. Where all is posted and taken it
     /// runs the window and goes on with the next round; it ends where a post or take is missing, or all is done. It waits for nothing.
     pub fn turn<P: Ports>(&mut self, alloc: Global, ports: &mut P) -> Turn
         // The ports are of this setup and core, and stand where the core's own counts stand.
