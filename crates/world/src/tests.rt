@@ -252,6 +252,23 @@ fn two_packets_meet(rt: HostRuntime) -> Result<(), Fail> {
     compare_orders(&rt, alloc, &setup)
 }
 
+/// Core 2 is named twice before the others and once after them. Its last turn takes the parcel of core 1, so that it waits for core 0
+/// alone: where a name is left out, or another core is turned for it, it answers otherwise.
+#[test]
+fn an_order_is_turned_name_by_name(rt: HostRuntime) -> Result<(), Fail> {
+    let alloc = rt.alloc();
+    let setup = meeting(alloc)?;
+    let mut world = begun(alloc, &setup)?;
+    let order = order_list(alloc, 304, 5, setup.parts().cores)?;
+    assert_eq!(rt; order.as_slice(), [2, 2, 0, 1, 2].as_slice());
+    world.run_order(alloc, &order)?;
+    let wait_for_0 = Turn::Waiting {
+        on: PortName::Take(0),
+    };
+    turn_all(&rt, alloc, &mut world, &[(2, wait_for_0), (0, Turn::Moved)]);
+    Ok(())
+}
+
 /// Two packets go over one slow pipe from core 0 to core 1, with other pipes before and behind it: 10 ticks at the first pipe, and 50
 /// at the slow one.
 fn bottleneck(alloc: Global) -> Result<Setup, Fail> {
