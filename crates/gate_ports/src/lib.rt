@@ -1,4 +1,4 @@
-//! The ports of a core between threads: a lane to and from each other core.
+//! The ports of a core between threads: a lane to each core and one from each, itself among them.
 //!
 //! It depends on parcel, gate_box, journal and mn_base. Its contracts speak of `GatePortsView` (specs/GatePortsView.antt).
 #![tactic(auto)]

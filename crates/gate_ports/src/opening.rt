@@ -12,8 +12,8 @@ use mn_base::NoMemory;
 use std::alloc::Global;
 use std::mem;
 
-/// Room for so many more ends stands after the senders of each core: 128 bytes that are never used, since these rows lie one after
-/// the other. So no two cores write to one cache line.
+/// Room for so many more ends stands after the senders of each core: 128 bytes that are never used. Where the allocator lays these rows
+/// one after the other, the senders of two cores are in no cache line together. The rows of receivers have no such room.
 const SPARE: usize = 8;
 
 /// The senders of one core, by the cores to which they send.
@@ -22,7 +22,7 @@ type Senders<'s> = Vec<Sender<Parcels<'s>>>;
 /// The receivers of one core, by the cores from which they receive.
 type Receivers<'s> = Vec<Receiver<Parcels<'s>>>;
 
-/// The ports of each core, in core order, with a lane between each two and nothing posted.
+/// The ports of each core, in core order, with a lane from each core to each, itself among them, and nothing posted.
 pub fn lanes<'s>(alloc: Global, setup: &'s Setup) -> Result<Vec<GatePorts<'s>>, NoMemory>
     ensures count { IfOk result (λ all. length all.items ≡ setup.now.cores) }
     ensures fresh { IfOk result (λ all. EachAt (IsFresh setup.now) all.items) }
