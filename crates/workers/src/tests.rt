@@ -8,9 +8,9 @@ use mn_base::{Bytes, PipeParams};
 use std::alloc::Global;
 use std::process::Abort;
 use std::sync::Wait;
-use std::sync::atomic::{AtomicBool, Ordering};
+use std::sync::atomic::{AtomicBool, AtomicU64, Ordering};
 use std::test::Fail;
-use std::thread::Threads;
+use std::thread::{Threads, yield_now};
 
 /// The parameters of a pipe of this bandwidth (in bit/s), and of this latency in ticks of 100,000 ns.
 macro_rules! params {
@@ -61,35 +61,38 @@ impl Hook for Quiet {
     fn at_start(&self, _core: u32) {}
 }
 
-/// Cores 1 and 2 each raise a flag of their own, and wait for the other's.
+/// Counts its calls, all of them and those for each of 16 cores, four bits a core.
 #[derive(Drop)]
-struct Meeting {
-    first: AtomicBool,
-    second: AtomicBool,
-    missed: AtomicBool,
+struct Starts {
+    count: AtomicU64,
+    cores: AtomicU64,
 }
 
-impl Meeting {
-    fn wait_for(&self, flag: &AtomicBool) {
-        for _look in 0..200_000_000u32 {
-            if flag.load(Ordering::SeqCst) {
-                return;
-            }
-        }
-        self.missed.store(true, Ordering::SeqCst);
+impl Hook for Starts {
+    fn at_start(&self, core: u32) {
+        self.count.fetch_add(1, Ordering::SeqCst);
+        self.cores
+            .fetch_add(1u64 << (core % 16 * 4), Ordering::SeqCst);
     }
 }
 
+/// Each of four cores counts itself, and waits until all four have.
+#[derive(Drop)]
+struct Meeting {
+    here: AtomicU64,
+    missed: AtomicBool,
+}
+
 impl Hook for Meeting {
-    fn at_start(&self, core: u32) {
-        if core == 1 {
-            self.first.store(true, Ordering::SeqCst);
-            self.wait_for(&self.second);
+    fn at_start(&self, _core: u32) {
+        self.here.fetch_add(1, Ordering::SeqCst);
+        for _look in 0..20_000_000u32 {
+            if self.here.load(Ordering::SeqCst) >= 4 {
+                return;
+            }
+            yield_now();
         }
-        if core == 2 {
-            self.second.store(true, Ordering::SeqCst);
-            self.wait_for(&self.first);
-        }
+        self.missed.store(true, Ordering::SeqCst);
     }
 }
 
@@ -203,23 +206,43 @@ fn idle_cores_go_along(rt: HostRuntime) -> Result<(), Fail> {
     )
 }
 
-/// Two workers that wait for each other before their first turns both come to them, so no thread runs one core after the other.
+/// The hook is told of each of eight cores once, also of those that no packet meets.
 #[test]
-fn workers_run_at_the_same_time(rt: HostRuntime) -> Result<(), Fail> {
+fn each_core_starts_once(rt: HostRuntime) -> Result<(), Fail> {
     let alloc = rt.alloc();
-    let setup = setup!(rt, 3, [8_000_000, 50; 8_000_000, 50; 8_000_000, 50], [0, 1, 2],
-        [[0, 1, 2]], [0 => 0, 0, 0; 1 => 0, 1, 0; 2 => 0, 2, 0]);
+    let setup =
+        setup!(rt, 8, [8_000_000, 50; 8_000_000, 50; 8_000_000, 50; 8_000_000, 50], [0, 1, 2, 3],
+        [[0, 2]], [0 => 0, 0, 0; 1 => 0, 0, 9]);
+    let starts = Starts {
+        count: AtomicU64::new(0),
+        cores: AtomicU64::new(0),
+    };
+    let stores = stock(alloc, &setup, bytes_of(alloc, &setup)?)?;
+    let mut tally = Tally::new();
+    let all = run_threads(&rt, alloc, &setup, stores, &starts, &mut tally)?;
+    fates_agree(&rt, alloc, &setup, &all)?;
+    assert_eq!(rt; starts.count.load(Ordering::SeqCst), 8);
+    assert_eq!(rt; starts.cores.load(Ordering::SeqCst), 0x1111_1111);
+    Ok(())
+}
+
+/// Four cores that wait for one another in the hook all come to it, so each of them has a thread of its own, and core 0 isn't told
+/// after its last turn: it can't come to that before the others begin.
+#[test]
+fn each_core_has_its_own_thread(rt: HostRuntime) -> Result<(), Fail> {
+    let alloc = rt.alloc();
+    let setup =
+        setup!(rt, 4, [8_000_000, 50; 8_000_000, 50; 8_000_000, 50; 8_000_000, 50], [0, 1, 2, 3],
+        [[0, 2]], [0 => 0, 0, 0; 1 => 0, 0, 9]);
     let meeting = Meeting {
-        first: AtomicBool::new(false),
-        second: AtomicBool::new(false),
+        here: AtomicU64::new(0),
         missed: AtomicBool::new(false),
     };
     let stores = stock(alloc, &setup, bytes_of(alloc, &setup)?)?;
     let mut tally = Tally::new();
     let all = run_threads(&rt, alloc, &setup, stores, &meeting, &mut tally)?;
     fates_agree(&rt, alloc, &setup, &all)?;
-    assert!(rt; meeting.first.load(Ordering::SeqCst));
-    assert!(rt; meeting.second.load(Ordering::SeqCst));
+    assert_eq!(rt; meeting.here.load(Ordering::SeqCst), 4);
     assert!(rt; !meeting.missed.load(Ordering::SeqCst));
     Ok(())
 }

@@ -1,4 +1,4 @@
-ghost use Rattle.std.specs.Prelude.{◌≡◌, false, All, OnOk};
+ghost use Rattle.std.specs.Prelude.{◌≡◌, ◌⊎◌, false, All, OnOk};
 ghost use Rattle.std.specs.List.{AllZip};
 ghost use Rattle.core_loop.specs.Turns.{IsCoreDone};
 ghost use Rattle.workers.specs.Standing.{GoesOn};
@@ -82,6 +82,10 @@ fn turn_here<'s>(alloc: Global, places: &mut [Place<'s>]) -> Turn
 /// What came of two turns: one that found no memory counts first, then one that moved, then one that waits.
 fn together(one: Turn, other: Turn) -> Turn
     ensures done { result ≡ Turn.Done → (one ≡ Turn.Done) × (other ≡ Turn.Done) }
+    ensures all_done { one ≡ Turn.Done → other ≡ Turn.Done → result ≡ Turn.Done }
+    ensures failed { one ≡ Turn.NoMemory → result ≡ Turn.NoMemory }
+    ensures other_failed { other ≡ Turn.NoMemory → result ≡ Turn.NoMemory }
+    ensures only_failed { result ≡ Turn.NoMemory → (one ≡ Turn.NoMemory) ⊎ (other ≡ Turn.NoMemory) }
 {
     match (one, other) {
         (Turn::NoMemory, _) | (_, Turn::NoMemory) => Turn::NoMemory,

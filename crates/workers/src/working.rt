@@ -61,6 +61,7 @@ fn work<'s, R: Wait, K: Hook>(
         if flags.is_stopped() {
             return station;
         }
+        // Never so here: the flag goes up before the closure is called, which looks at it above. It's a look, and does no harm.
         if flags.is_given_back(core) {
             return station;
         }
