@@ -21,7 +21,7 @@ pub struct Change {
 /// What a directory text says.
 #[derive(Drop)]
 pub struct Split {
-    /// A directory text of the first version.
+    /// A directory text of the first version, or the whole text where it isn't one of the second.
     pub directory: Bytes,
     /// The changes, by tick and then by pipe.
     pub changes: Vec<Change>,

@@ -5,14 +5,14 @@ use journal::Visit;
 use mn_base::NoMemory;
 use pipe::Step;
 
-pub fn write_head(text: &mut String) -> Result<(), NoMemory>
+pub(crate) fn write_head(text: &mut String) -> Result<(), NoMemory>
     ensures { OnOk result (string_bytes text.new ≡ string_bytes text.old ++ journal_head) }
 {
     writeln!(text, "modelnet journal 1")?;
     Ok(())
 }
 
-pub fn write_visit(text: &mut String, visit: &Visit) -> Result<(), NoMemory>
+pub(crate) fn write_visit(text: &mut String, visit: &Visit) -> Result<(), NoMemory>
     ensures { OnOk result (string_bytes text.new ≡ string_bytes text.old ++ visit_line visit.now) }
 {
     let Visit {

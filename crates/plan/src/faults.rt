@@ -6,8 +6,8 @@ use ownership::AssignFault;
 pub enum PlanFault {
     /// The distilled topology has so many pipes, more than `PIPES_MAX`.
     TooManyPipes(u64),
-    /// The directory text has this fault as a text of either version.
+    /// The directory text is one of the second version, and has this fault in its head or its changes.
     Changes(ChangesFault),
-    /// The directory text of the first version has this fault.
+    /// The directory text has this fault in its owners; those of the second version are read as a text of the first.
     Assign(AssignFault),
 }

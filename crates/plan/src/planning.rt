@@ -46,7 +46,7 @@ impl Model for Planned {
 /// causes of `Unbound` stands against it; the first in their order counts. Each ordered pair of nodes has one route, in order of
 /// first use. Bytes are moved, not copied. A destination is searched for once.
 ///
-/// The faults, first the earliest: `TooManyPipes`, and then that of the directory text, if there is one.
+/// The faults, first the earliest: `TooManyPipes`, and then, if there is a directory text, `Changes` and `Assign`.
 pub fn plan(
     alloc: Global,
     topology: &Topology,
