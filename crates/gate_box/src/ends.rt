@@ -37,7 +37,7 @@ impl<L: Lane> Model for Sender<L> {
 
     ghost Value = { EndView L.Name };
 
-    ghost view = { λ s. record { name = s.seat.me.0.name; next = s.next; misses = s.seat.me.0.misses; found = s.seat.me.0.found } };
+    ghost view = { λ s. record { lane = s.seat.table_id; name = s.seat.me.0.name; next = s.next; misses = s.seat.me.0.misses; found = s.seat.me.0.found } };
 
     ghost invariant = { λ s. IsSeated s.seat.table_id (arc_value s.table).shared.table_id s.seat.me true false s.next };
 }
@@ -58,7 +58,7 @@ impl<L: Lane> Model for Receiver<L> {
 
     ghost Value = { EndView L.Name };
 
-    ghost view = { λ s. record { name = s.seat.me.0.name; next = s.next; misses = s.seat.me.0.misses; found = s.seat.me.0.found } };
+    ghost view = { λ s. record { lane = s.seat.table_id; name = s.seat.me.0.name; next = s.next; misses = s.seat.me.0.misses; found = s.seat.me.0.found } };
 
     ghost invariant = { λ s. IsSeated s.seat.table_id (arc_value s.table).shared.table_id s.seat.me false true s.next };
 }
@@ -73,7 +73,7 @@ impl<L: Lane> Sender<L> {
         requires one { (seat.table_id.words ≡ WORDS) × (seat.table_id.slots ≡ 1) }
         requires role { (seat.me.0.sends ≡ true) × (seat.me.0.receives ≡ false) }
         requires first { (seat.me.0.next ≡ 0) × (seat.me.0.holds ≡ false) × (seat.me.1 ≡ []) }
-        ensures { result ≡ record { name = seat.me.0.name; next = 0; misses = seat.me.0.misses; found = seat.me.0.found } }
+        ensures { result ≡ record { lane = seat.table_id; name = seat.me.0.name; next = 0; misses = seat.me.0.misses; found = seat.me.0.found } }
     {
         Sender {
             table,
@@ -93,6 +93,7 @@ impl<L: Lane> Sender<L> {
     pub fn try_post(&mut self, item: L::Item) -> Result<(), LaneBusy<L::Item>>
         requires item { L.is_item self.old.name self.old.next item }
         requires room { self.old.next < 2 ^ 60 }
+        ensures lane { self.new.lane ≡ self.old.lane }
         ensures name { self.new.name ≡ self.old.name }
         ensures misses { self.old.misses ≤ self.new.misses }
         ensures ok { OnOk result (self.new ≡ record self.old { next = self.old.next + 1 }) }
@@ -127,7 +128,7 @@ impl<L: Lane> Receiver<L> {
         requires one { (seat.table_id.words ≡ WORDS) × (seat.table_id.slots ≡ 1) }
         requires role { (seat.me.0.sends ≡ false) × (seat.me.0.receives ≡ true) }
         requires first { (seat.me.0.next ≡ 0) × (seat.me.0.holds ≡ false) × (seat.me.1 ≡ []) }
-        ensures { result ≡ record { name = seat.me.0.name; next = 0; misses = seat.me.0.misses; found = seat.me.0.found } }
+        ensures { result ≡ record { lane = seat.table_id; name = seat.me.0.name; next = 0; misses = seat.me.0.misses; found = seat.me.0.found } }
     {
         Receiver {
             table,
@@ -146,6 +147,7 @@ impl<L: Lane> Receiver<L> {
     /// Takes the next item, where it is there.
     pub fn try_take(&mut self) -> Result<L::Item, LaneEmpty>
         requires room { self.old.next < 2 ^ 60 }
+        ensures lane { self.new.lane ≡ self.old.lane }
         ensures name { self.new.name ≡ self.old.name }
         ensures misses { self.old.misses ≤ self.new.misses }
         ensures item { IfOk result (λ item. L.is_item self.old.name self.old.next item) }
