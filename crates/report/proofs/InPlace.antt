@@ -1,5 +1,5 @@
 -- Packets that get the times of their fates, one after the other, in their own places.
-use Rattle.std.proofs.Common.{◌≡◌, ◌<◌, ◌≤◌, ◌+◌, ℕ, zero, suc, Bool, not, eqb, false, List, [], ◌∷◌, length, map, filter, filter_map, get_or, set, drop, All, AllPairs, refl, sym, ap, ◌∙◌, inl, inr, arith}
+use Rattle.std.proofs.Common.{◌≡◌, ◌<◌, ◌≤◌, ℕ, zero, suc, Bool, not, eqb, false, List, [], ◌∷◌, length, map, filter, filter_map, get_or, set, drop, All, AllPairs, refl, sym, ap, ◌∙◌, inl, inr, arith}
 use Rattle.std.specs.List.{zip, cons_option}
 use Rattle.std.specs.Option.{option_map_or}
 use Rattle.std.proofs.lemmas.Bool.{ne_eqb}

@@ -9,7 +9,6 @@ use Rattle.mn_base.specs.Times.{output_time}
 use Rattle.mn_base.specs.declared.limits.TheConstants.{PACKET_BYTES_MAX, RECORD_NS_END}
 use Rattle.pcap_io.specs.declared.packet.Packet.{Packet}
 use Rattle.journal.specs.declared.setup.PacketPlan.{PacketPlan}
-use Rattle.journal.specs.declared.visit.Visit.{Visit}
 use Rattle.journal.specs.declared.fate.Fate.{Fate}
 use Rattle.journal.specs.declared.fate.Fate.TheVariants.{Left, Dropped}
 use Rattle.journal.specs.SetupView.{SetupView, packet_of}
