@@ -1,24 +1,28 @@
-ghost use Rattle.std.specs.Prelude.{◌≡◌, ◌≤◌, length, map, All, None, IfOk, IfErr};
+ghost use Rattle.std.specs.Prelude.{◌≡◌, ◌≤◌, [], length, map, All, None, IfOk, IfErr};
+ghost use Rattle.std.specs.List.{range_with_len};
 ghost use Rattle.mn_base.specs.Refused.{IfFault};
+ghost use Rattle.mn_base.specs.declared.limits.TheConstants.{PACKETS_MAX};
 ghost use Rattle.pcap_io.specs.Capture.{IsTrace, IsRecordTime};
 ghost use Rattle.pcap_io.specs.Writing.{pcap_text};
 ghost use Rattle.pcapng_in.specs.CaptureFile.{SaysTrace, CaptureFirst};
 ghost use Rattle.journal.specs.Journal.{journal_of};
-ghost use Rattle.settle.specs.IsOutcome.{IsOutcome};
+ghost use Rattle.journal.specs.Fates.{fate_of};
+ghost use Rattle.parcel.specs.Counts.{counts_of};
+ghost use Rattle.settle.specs.IsOutcome.{drop_lines};
+ghost use Rattle.report.specs.Report.{report_lines};
 ghost use Rattle.mn_words.specs.Order.{IsChainOrder};
 ghost use Rattle.modelnet.specs.Run.{IsChainRun, SaysRun};
 
 use crate::chain_setup::chain_setup;
 use crate::run_outputs::Texts;
-use journal::laws::outputs_fit;
-use journal::{Setup, fates};
+use journal::{Fate, Setup, fates};
 use mn_base::limits::TRACE_BYTES_MAX;
 use mn_base::{Bytes, NoMemory, Refusal};
 use mn_words::ChainOrder;
 use pcap_io::{Packet, Trace};
 use pcapng_in::{CaptureFault, read_capture};
-use report::{out_trace, print_report};
-use settle::{Outcome, gather};
+use report::{leaving_trace, print_lines};
+use settle::{count_visits, drop_lines};
 use std::alloc::Global;
 
 /// What a chain makes of the bytes of a trace, in either capture format.
@@ -61,11 +65,9 @@ fn run_chain(alloc: Global, order: &ChainOrder, trace: Trace) -> Result<Texts, N
     ensures nothing_shown { IfOk result (λ texts. texts.screen ≡ None) }
 {
     let setup = chain_setup(alloc, order, &trace)?;
-    outputs_fit(&setup);
-    let outcome = chain_outcome(alloc, &setup, trace.into_packets())?;
-    let report = print_report(alloc, &outcome, &[])?;
-    let Outcome { leaving, .. } = outcome;
-    let out = out_trace(alloc, &setup, leaving)?;
+    let fates = fates(alloc, &setup)?;
+    let out = leaving_trace(alloc, &setup, &fates, trace.into_packets())?;
+    let report = chain_report(alloc, &setup, &fates, out.packets().len())?;
     Ok(Texts {
         out,
         report,
@@ -73,15 +75,21 @@ fn run_chain(alloc: Global, order: &ChainOrder, trace: Trace) -> Result<Texts, N
     })
 }
 
-/// What comes of these packets, whose bytes are moved.
-fn chain_outcome(alloc: Global, setup: &Setup, packets: Vec<Packet>) -> Result<Outcome, NoMemory>
-    requires { length packets.items ≡ length setup.now.packets }
-    ensures { IfOk result (IsOutcome setup.now (journal_of setup.now) (map (λ p. p.bytes) packets.items)) }
+/// The report of a setup whose packets are all bound and of which so many leave, by their fates.
+fn chain_report(
+    alloc: Global,
+    setup: &Setup,
+    fates: &[Fate],
+    left: usize,
+) -> Result<Bytes, NoMemory>
+    requires fates { fates.now ≡ map (fate_of setup.now) setup.now.packets }
+    requires few { left ≤ PACKETS_MAX }
+    ensures { IfOk result (λ text. text ≡ report_lines left (drop_lines setup.now (journal_of setup.now))
+        (map (counts_of (journal_of setup.now)) (range_with_len 0 (length setup.now.pipes))) []) }
 {
-    // The bytes after the fates: they then lie where the maker of the fates had its first visits.
-    let fates = fates(alloc, setup)?;
-    let bytes = packet_bytes(alloc, packets)?;
-    gather(alloc, setup, &fates, bytes)
+    let dropped = drop_lines(alloc, setup, fates)?;
+    let pipe_counts = count_visits(alloc, setup, fates)?;
+    print_lines(alloc, left, &dropped, &pipe_counts, &[])
 }
 
 /// The bytes of each packet, in order.

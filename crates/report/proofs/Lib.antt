@@ -1,6 +1,9 @@
 pub mod Clusters
+pub mod InOrder
+pub mod InPlace
 pub mod LastTicks
 pub mod Limits
 pub mod NoCores
 pub mod NumberedLines
 pub mod Numbers
+pub mod PacketsLeft

@@ -1,6 +1,5 @@
 -- Cores don't show in the outputs.
-use Rattle.std.proofs.Common.{◌≡◌, ℕ, ◌+◌, ◌*◌, List, [], ◌∷◌, ◌++◌, length, map, refl, sym, ap, ◌∙◌}
-use Rattle.std.specs.List.{flat_map}
+use Rattle.std.proofs.Common.{◌≡◌, ℕ, ◌+◌, ◌*◌, List, [], ◌∷◌, length, map, refl, sym, ap, ◌∙◌}
 use Rattle.mn_base.specs.declared.causes.Unbound.{Unbound}
 use Rattle.mn_base.specs.Times.{output_time}
 use Rattle.pcap_io.specs.declared.packet.Packet.{Packet}
@@ -12,22 +11,16 @@ use Rattle.settle.specs.declared.outcome.Leaving.{Leaving}
 use Rattle.settle.specs.OutcomeView.{OutcomeView}
 use Rattle.settle.proofs.NoCores.{outcomes_read_no_core}
 use Rattle.settle.specs.Laws.{IsSameOutcome}
-use Rattle.report.specs.Report.{head_line, packets_line, pipe_line, visited_pipes, drop_line, unbound_line, report_text}
+use Rattle.report.specs.Report.{report_lines, report_text}
 use Rattle.report.specs.Traces.{packet_left, trace_of}
 use Rattle.report.specs.Laws.{DifferInCores, OutputsReadNoCore}
 
 -- outcomes with the same lists have one report
 report_text-same : (o p : OutcomeView) (unbounds : List (ℕ × Unbound)) → IsSameOutcome o p → report_text o unbounds ≡ report_text p unbounds
-unfolding report_text
 report_text-same o p unbounds same =
-    ap (λ (ls : List Leaving). lines ls o.pipe_counts o.dropped) same.leaving
-    ∙ ap (λ (cs : List PipeCounts). lines p.leaving cs o.dropped) same.pipe_counts
-    ∙ ap (λ (ds : List DropLine). lines p.leaving p.pipe_counts ds) same.dropped
-  where
-    lines : List Leaving → List PipeCounts → List DropLine → List ℕ
-    lines ls cs ds =
-        head_line ++ packets_line (length ls) (length ds) (length unbounds) ++ flat_map pipe_line (visited_pipes cs) ++ flat_map drop_line ds
-        ++ flat_map unbound_line unbounds
+    ap (λ (ls : List Leaving). report_lines (length ls) o.dropped o.pipe_counts unbounds) same.leaving
+    ∙ ap (λ (cs : List PipeCounts). report_lines (length p.leaving) o.dropped cs unbounds) same.pipe_counts
+    ∙ ap (λ (ds : List DropLine). report_lines (length p.leaving) ds p.pipe_counts unbounds) same.dropped
 
 module _ (S R : SetupView) (differ : DifferInCores S R) where
   packet_left-same : (left : Leaving) → packet_left S left ≡ packet_left R left

@@ -1,5 +1,6 @@
 pub mod Cluster
 pub mod Laws
+pub mod Leaving
 pub mod Moves
 pub mod Pipes
 pub mod Report

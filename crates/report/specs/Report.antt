@@ -70,11 +70,15 @@ has_visit c = nat_lt 0 (c.passed + c.lost + c.full)
 abbrev pub visited_pipes : List PipeCounts → List PipeCounts
 visited_pipes counts = filter has_visit counts
 
--- the report of an outcome and of the packets that were bound to no route
-unfoldable pub report_text : OutcomeView → List (ℕ × Unbound) → List ℕ
-report_text o unbounds =
+-- the report of so many packets that left, of these drop lines, these counts of pipes and these packets that were bound to no route
+unfoldable pub report_lines : ℕ → List DropLine → List PipeCounts → List (ℕ × Unbound) → List ℕ
+report_lines left dropped pipe_counts unbounds =
     head_line
-    ++ packets_line (length o.leaving) (length o.dropped) (length unbounds)
-    ++ flat_map pipe_line (visited_pipes o.pipe_counts)
-    ++ flat_map drop_line o.dropped
+    ++ packets_line left (length dropped) (length unbounds)
+    ++ flat_map pipe_line (visited_pipes pipe_counts)
+    ++ flat_map drop_line dropped
     ++ flat_map unbound_line unbounds
+
+-- the report of an outcome and of the packets that were bound to no route
+abbrev pub report_text : OutcomeView → List (ℕ × Unbound) → List ℕ
+report_text o unbounds = report_lines (length o.leaving) o.dropped o.pipe_counts unbounds

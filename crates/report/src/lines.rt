@@ -1,9 +1,9 @@
-ghost use Rattle.std.specs.Prelude.{◌≡◌, ◌++◌, length, string_bytes, OnOk};
+ghost use Rattle.std.specs.Prelude.{◌≡◌, ◌<◌, ◌^◌, ◌++◌, length, string_bytes, OnOk};
 ghost use Rattle.report.specs.Report.{cause_word, unbound_word, head_line, packets_line, pipe_line, drop_line, unbound_line};
 
 use mn_base::{Cause, NoMemory, Unbound};
 use parcel::PipeCounts;
-use settle::{DropLine, Leaving};
+use settle::DropLine;
 
 fn cause_text(cause: Cause) -> &'static str
     ensures { result.now ≡ cause_word cause }
@@ -36,13 +36,13 @@ pub fn write_head(text: &mut String) -> Result<(), NoMemory>
 
 pub fn write_packets(
     text: &mut String,
-    leaving: &[Leaving],
+    left: usize,
     dropped: &[DropLine],
     unbounds: &[(u32, Unbound)],
 ) -> Result<(), NoMemory>
-    ensures { OnOk result (string_bytes text.new ≡ string_bytes text.old ++ packets_line (length leaving.now) (length dropped.now) (length unbounds.now)) }
+    requires { left < 2 ^ 63 }
+    ensures { OnOk result (string_bytes text.new ≡ string_bytes text.old ++ packets_line left (length dropped.now) (length unbounds.now)) }
 {
-    let left = leaving.len();
     let dropped = dropped.len();
     let unbound = unbounds.len();
     let bound = left + dropped;

@@ -1,6 +1,6 @@
-ghost use Rattle.std.specs.Prelude.{◌≡◌, ◌++◌, IfOk, OnOk, string_bytes};
+ghost use Rattle.std.specs.Prelude.{◌≡◌, ◌<◌, ◌^◌, ◌++◌, IfOk, OnOk, string_bytes};
 ghost use Rattle.std.specs.List.{flat_map};
-ghost use Rattle.report.specs.Report.{report_text, pipe_line, has_visit, visited_pipes, drop_line, unbound_line};
+ghost use Rattle.report.specs.Report.{report_text, report_lines, pipe_line, has_visit, visited_pipes, drop_line, unbound_line};
 
 use crate::lines::{write_drop, write_head, write_packets, write_pipe, write_unbound};
 use mn_base::{Bytes, NoMemory, Unbound};
@@ -28,11 +28,32 @@ pub fn print_report(
 ) -> Result<Bytes, NoMemory>
     ensures text { IfOk result (λ text. text ≡ report_text outcome.now unbounds.now) }
 {
+    let left = outcome.leaving.len();
+    print_lines(
+        alloc,
+        left,
+        &outcome.dropped,
+        &outcome.pipe_counts,
+        unbounds,
+    )
+}
+
+/// The same by its parts: how many packets left, which were dropped, and what each pipe did.
+pub fn print_lines(
+    alloc: Global,
+    left: usize,
+    dropped: &[DropLine],
+    pipe_counts: &[PipeCounts],
+    unbounds: &[(u32, Unbound)],
+) -> Result<Bytes, NoMemory>
+    requires { left < 2 ^ 63 }
+    ensures { IfOk result (λ text. text ≡ report_lines left dropped.now pipe_counts.now unbounds.now) }
+{
     let mut text = String::new(alloc);
     write_head(&mut text)?;
-    write_packets(&mut text, &outcome.leaving, &outcome.dropped, unbounds)?;
-    write_pipes(&mut text, &outcome.pipe_counts)?;
-    write_drops(&mut text, &outcome.dropped)?;
+    write_packets(&mut text, left, dropped, unbounds)?;
+    write_pipes(&mut text, pipe_counts)?;
+    write_drops(&mut text, dropped)?;
     write_unbounds(&mut text, unbounds)?;
     Ok(Bytes::from_vec(text.into_bytes()))
 }

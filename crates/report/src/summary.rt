@@ -40,7 +40,7 @@ pub fn print_summary(
     let mut text = String::new(alloc);
     write_number(&mut text, input.number, input.packets)?;
     write_lengths(&mut text, input.gml_len, input.trace_len)?;
-    write_packets(&mut text, &outcome.leaving, &outcome.dropped, unbounds)?;
+    write_packets(&mut text, outcome.leaving.len(), &outcome.dropped, unbounds)?;
     write_last_tick(&mut text, last_leaving_tick_of(&outcome.leaving))?;
     Ok(Bytes::from_vec(text.into_bytes()))
 }

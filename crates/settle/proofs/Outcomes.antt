@@ -24,7 +24,8 @@ leavings-beside fate (p ∷ ps) [] = refl
 leavings-beside fate (p ∷ ps) (b ∷ bytes) =
     ap (cons_option (leaving_of p.number b (fate p))) (leavings-beside fate ps bytes)
 
-drops-beside : (fate : PacketPlan → Fate) (ps : List PacketPlan)
+-- a list of fates beside the packets drops the packets, each with its fate
+pub drops-beside : (fate : PacketPlan → Fate) (ps : List PacketPlan)
     → filter_map (λ p. drop_of p.0.number p.1) (zip ps (map fate ps)) ≡ filter_map (λ p. drop_of p.number (fate p)) ps
 drops-beside fate [] = refl
 drops-beside fate (p ∷ ps) = ap (cons_option (drop_of p.number (fate p))) (drops-beside fate ps)

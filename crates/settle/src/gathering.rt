@@ -2,7 +2,7 @@ ghost use Rattle.std.specs.Prelude.{◌≡◌, ◌<◌, [], length, map, filter_
 ghost use Rattle.std.specs.List.{zip};
 ghost use Rattle.journal.specs.Journal.{journal_of};
 ghost use Rattle.journal.specs.Fates.{fate_of};
-ghost use Rattle.settle.specs.IsOutcome.{leaving_of, drop_of, IsOutcome};
+ghost use Rattle.settle.specs.IsOutcome.{leaving_of, drop_of, drop_lines, IsOutcome};
 
 use crate::counting::count_visits;
 use crate::outcome::{DropLine, Leaving, Outcome};
@@ -34,6 +34,15 @@ pub fn gather(
         pipe_counts,
         cores: Vec::new(alloc),
     })
+}
+
+/// The packets of a setup that are dropped, in packet order, by the fates of all.
+pub fn drop_lines(alloc: Global, setup: &Setup, fates: &[Fate]) -> Result<Vec<DropLine>, NoMemory>
+    requires { fates.now ≡ map (fate_of setup.now) setup.now.packets }
+    ensures { IfOk result (λ lines. lines.items ≡ drop_lines setup.now (journal_of setup.now)) }
+{
+    let lines = all_dropped(alloc, &setup.parts().packets, fates)?;
+    Ok(lines)
 }
 
 /// The leaving of a packet of this fate, if it left.

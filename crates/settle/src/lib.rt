@@ -9,7 +9,8 @@ pub mod laws;
 mod merging;
 mod outcome;
 
-pub use gathering::gather;
+pub use counting::count_visits;
+pub use gathering::{drop_lines, gather};
 pub use merging::{merge, outcome_of};
 pub use outcome::{DropLine, Leaving, Outcome};
 

@@ -1,7 +1,7 @@
 ghost use Rattle.std.specs.Prelude.{◌≡◌, ℕ, [], ◌∷◌, IfOk};
 ghost use Rattle.journal.specs.declared.setup.PacketPlan.{PacketPlan};
 
-use crate::{Outcome, gather};
+use crate::{Outcome, count_visits, drop_lines, gather};
 use journal::{LossBy, PacketPlan, Setup, SetupParts, fates};
 use mn_base::limits::{KEEP_MAX, LINK_TYPE_RAW, TICK_NS_DEFAULT};
 use mn_base::{Bytes, Cause, NoMemory, PipeParams};
@@ -81,5 +81,18 @@ fn a_drop_between_two_packets_that_leave(rt: HostRuntime) -> Result<(), Fail> {
         (counts.pipe, counts.passed, counts.lost, counts.full),
         (0, 2, 0, 1)
     );
+    Ok(())
+}
+
+#[test]
+fn drops_and_counts_alone_are_those_of_the_outcome(rt: HostRuntime) -> Result<(), Fail> {
+    let setup = setup(rt.alloc())?;
+    let fates = fates(rt.alloc(), &setup)?;
+    let lines = drop_lines(rt.alloc(), &setup, &fates)?;
+    assert_eq!(rt; lines.len(), 1);
+    assert_eq!(rt; (lines[0].packet, lines[0].tick), (1, 9));
+    let counts = count_visits(rt.alloc(), &setup, &fates)?;
+    assert_eq!(rt; counts.len(), 1);
+    assert_eq!(rt; (counts[0].passed, counts[0].full), (2, 1));
     Ok(())
 }

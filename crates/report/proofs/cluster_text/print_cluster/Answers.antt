@@ -1,11 +1,11 @@
-use Rattle.std.proofs.Common.{◌≡◌, ◌++◌, Vec, ℕ, Global, get_or, ap, sym, ◌∙◌, rules}
+use Rattle.std.proofs.Common.{◌≡◌, ◌++◌, Vec, ℕ, Global, get_or, ap, ◌∙◌}
 use Rattle.std.specs.Prelude.{string_bytes}
 use Rattle.journal.specs.SetupView.{SetupView}
 use Rattle.parcel.specs.declared.counts.CoreCounts.{CoreCounts}
 use Rattle.parcel.specs.Windows.{window_count}
 use Rattle.settle.specs.OutcomeView.{OutcomeView}
 use Rattle.report.specs.Report.{numbered_lines}
-use Rattle.report.specs.Cluster.{cores_line, core_line}
+use Rattle.report.specs.Cluster.{core_line}
 use Rattle.report.proofs.Clusters.{first-windows, cluster-written}
 use Rattle.report.proofs.cluster_text.print_cluster.Goals as goal
 
