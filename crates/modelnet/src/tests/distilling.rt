@@ -48,6 +48,22 @@ pipe 8 from 2 to 3 bps 2000000 us 20000 ticks 200 queue 20 keep 4294967296 links
 pipe 9 from 3 to 2 bps 2000000 us 20000 ticks 200 queue 20 keep 4294967296 links 1
 ";
 
+const TWO_STUBS_END_TO_END: &str = "modelnet pipes 1
+mode end tick-ns 100000 pipes 12
+pipe 0 from 0 to 1 bps 10000000 us 2000 ticks 20 queue 50 keep 4294967296 links 2
+pipe 1 from 0 to 4 bps 2000000 us 22000 ticks 220 queue 20 keep 4294967296 links 3
+pipe 2 from 0 to 5 bps 2000000 us 22000 ticks 220 queue 20 keep 4294967296 links 3
+pipe 3 from 1 to 0 bps 10000000 us 2000 ticks 20 queue 50 keep 4294967296 links 2
+pipe 4 from 1 to 4 bps 2000000 us 22000 ticks 220 queue 20 keep 4294967296 links 3
+pipe 5 from 1 to 5 bps 2000000 us 22000 ticks 220 queue 20 keep 4294967296 links 3
+pipe 6 from 4 to 0 bps 2000000 us 22000 ticks 220 queue 20 keep 4294967296 links 3
+pipe 7 from 4 to 1 bps 2000000 us 22000 ticks 220 queue 20 keep 4294967296 links 3
+pipe 8 from 4 to 5 bps 10000000 us 2000 ticks 20 queue 50 keep 4294967296 links 2
+pipe 9 from 5 to 0 bps 2000000 us 22000 ticks 220 queue 20 keep 4294967296 links 3
+pipe 10 from 5 to 1 bps 2000000 us 22000 ticks 220 queue 20 keep 4294967296 links 3
+pipe 11 from 5 to 4 bps 10000000 us 2000 ticks 20 queue 50 keep 4294967296 links 2
+";
+
 fn host(
     rt: &(impl Abort + AllocGlobal),
     topology: &str,
@@ -91,6 +107,12 @@ pub fn assert_prints(
 fn two_stubs_are_walked_in(rt: HostRuntime) {
     let line = "distill --mode=walk:1 --topology g";
     assert_prints(&rt, line, TWO_STUBS, Status::Done, TWO_STUBS_WALKED_IN);
+}
+
+#[test]
+fn two_stubs_are_a_mesh_from_end_to_end(rt: HostRuntime) {
+    let line = "distill --mode end --topology g";
+    assert_prints(&rt, line, TWO_STUBS, Status::Done, TWO_STUBS_END_TO_END);
 }
 
 #[test]
