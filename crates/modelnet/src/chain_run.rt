@@ -19,7 +19,7 @@ use journal::{Fate, Setup, fates};
 use mn_base::limits::TRACE_BYTES_MAX;
 use mn_base::{Bytes, NoMemory, Refusal};
 use mn_words::ChainOrder;
-use pcap_io::{Packet, Trace};
+use pcap_io::Trace;
 use pcapng_in::{CaptureFault, read_capture};
 use report::{leaving_trace, print_lines};
 use settle::{count_visits, drop_lines};
@@ -90,15 +90,4 @@ fn chain_report(
     let dropped = drop_lines(alloc, setup, fates)?;
     let pipe_counts = count_visits(alloc, setup, fates)?;
     print_lines(alloc, left, &dropped, &pipe_counts, &[])
-}
-
-/// The bytes of each packet, in order.
-pub fn packet_bytes(alloc: Global, packets: Vec<Packet>) -> Result<Vec<Bytes>, NoMemory>
-    ensures { IfOk result (λ bytes. bytes.items ≡ map (λ p. p.bytes) packets.items) }
-{
-    let bytes = packets
-        .into_iter()
-        .map(|packet| packet.bytes)
-        .collect(alloc)?;
-    Ok(bytes)
 }

@@ -8,7 +8,7 @@ ghost use Rattle.settle.specs.IsOutcome.{LeavesBefore};
 ghost use Rattle.mn_words.specs.Order.{IsRedOrder};
 ghost use Rattle.modelnet.specs.RedRun.{IsRedRun, SaysRed, red_leaving_of, red_leavings};
 
-use crate::chain_run::{packet_bytes, read_trace};
+use crate::chain_run::read_trace;
 use crate::red_setup::{base_setup, red_setup};
 use crate::run_outputs::Texts;
 use journal::{PacketPlan, Setup};
@@ -18,7 +18,7 @@ use mn_words::RedOrder;
 use pcap_io::{Packet, Trace};
 use pcapng_in::CaptureFault;
 use red_queue::{RedFate, print_red_fates, red_fates, red_journal};
-use report::out_trace;
+use report::{out_trace, packet_bytes};
 use settle::Leaving;
 use std::alloc::{AllocError, Global};
 

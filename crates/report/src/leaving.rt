@@ -113,8 +113,8 @@ fn trace_in_order(
     out_trace(alloc, setup, leaving)
 }
 
-/// The bytes of each packet, in order.
-fn packet_bytes(alloc: Global, packets: Vec<Packet>) -> Result<Vec<Bytes>, NoMemory>
+/// The captured bytes of each packet, in order, which are moved.
+pub fn packet_bytes(alloc: Global, packets: Vec<Packet>) -> Result<Vec<Bytes>, NoMemory>
     ensures { IfOk result (λ bytes. bytes.items ≡ map (λ p. p.bytes) packets.items) }
 {
     let bytes = packets

@@ -17,7 +17,7 @@ mod summary;
 mod traces;
 
 pub use cluster_text::print_cluster;
-pub use leaving::leaving_trace;
+pub use leaving::{leaving_trace, packet_bytes};
 pub use moves_text::print_moves;
 pub use pipes_text::print_pipes;
 pub use printing::{print_lines, print_report};
