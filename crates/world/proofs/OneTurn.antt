@@ -56,7 +56,7 @@ module _ (w : WorldView) (core : ℕ) (c d : CoreView) (q : PlainBoxesView) (fai
   pub now-here : IsCoreOf x core d
   now-here = get-set-same w.cores core d below
 
-  now-other : (k : ℕ) → k ≢ core → slice_get x.cores k ≡ slice_get w.cores k
+  pub now-other : (k : ℕ) → k ≢ core → slice_get x.cores k ≡ slice_get w.cores k
   now-other k ne = get-set-other w.cores core d k ne
 
   -- what holds of d, and of each other core, holds of each core

@@ -9,10 +9,10 @@ use Rattle.core_loop.specs.declared.turn.Turn.{Turn}
 use Rattle.core_loop.specs.declared.turn.Turn.TheVariants.{Moved, Waiting, Done, NoMemory}
 use Rattle.core_loop.specs.CoreView.{CoreView, IsOtherCore}
 use Rattle.core_loop.specs.WorldState.{CoreStands, IsInStep}
-use Rattle.core_loop.specs.Turns.{StandAt, NoCountFalls, HasMoved, StillStands, OwesPost, OwesTake, Owes, IsCoreDone, HasEnded, RefusedBetween, IfWaiting}
+use Rattle.core_loop.specs.Turns.{StandAt, NoCountFalls, HasMoved, StillStands, OwesPost, OwesTake, Owes, IsCoreDone, HasEnded, RefusedBetween, IfWaiting, MayFail}
 use Rattle.world.specs.WorldView.{WorldView, IsCoreOf, IsWorld}
 use Rattle.world.specs.Worlds.{WorldStands, WorldStillStands, Turned}
-use Rattle.world.proofs.OneTurn.{TurnsTo, world_then, now-here, turn-keeps, turn-stands, turn-turned}
+use Rattle.world.proofs.OneTurn.{TurnsTo, world_then, now-here, now-other, turn-keeps, turn-stands, turn-turned}
 use Rattle.world.proofs.NoEvents.{was-full, was-empty, turn-moves}
 
 -- what the turn of a core says of it, over boxes
@@ -31,6 +31,7 @@ pub record CoreTurned (c d : CoreView) (p q : PlainBoxesView) (turn : Turn) : Ty
   pub done : turn ≡ Done → IsCoreDone d
   pub ended : turn ≡ Done → HasEnded d
   pub no_memory : d.failed ≡ true → turn ≡ NoMemory
+  pub may_fail : turn ≡ NoMemory → MayFail c d
 
 -- a fact of a turn that waits gives another
 pub waiting-map : (turn : Turn) (P Q : PortName → Type 0) → ((on : PortName) → turn ≡ Waiting on → P on → Q on) → IfWaiting turn P → IfWaiting turn Q
@@ -122,6 +123,15 @@ module _ (w : WorldView) (core : ℕ) (c d : CoreView) (q : PlainBoxesView) (tur
 
   pub says-done : (f : Bool) → turn ≡ Done → (e : CoreView) → IsCoreOf (world_then w core d q f) core e → IsCoreDone e × HasEnded e
   says-done f done e at = subst (λ (z : CoreView). IsCoreDone z × HasEnded z) (now-core e f at) (t.done done, t.ended done)
+
+  pub says-may-fail : (f : Bool) → turn ≡ NoMemory → (b e : CoreView) → IsCoreOf w core b → IsCoreOf (world_then w core d q f) core e
+      → MayFail b e
+  says-may-fail f memory b e at_b at_e =
+      subst (λ (z : CoreView). MayFail z e) (same-core b at_b)
+      (subst (λ (z : CoreView). MayFail c z) (now-core e f at_e) (t.may_fail memory))
+
+  pub says-others : (other : ℕ) → other ≢ core → slice_get (set w.cores core d) other ≡ slice_get w.cores other
+  says-others other ne = now-other w core c d q false turns-to other ne
 
   -- what is true of all worlds stays true
   pub says-world : (f : Bool) → (f ≡ false → (w.failed ≡ false) × (turn ≡ NoMemory → ⊥)) → IsWorld (world_then w core d q f)

@@ -1,6 +1,6 @@
-ghost use Rattle.std.specs.Prelude.{◌≡◌, ◌≢◌, ◌<◌, ℕ, true, false, All, OnOk, OnErr};
+ghost use Rattle.std.specs.Prelude.{◌≡◌, ◌≢◌, ◌<◌, ℕ, true, false, All, OnOk, OnErr, slice_get};
 ghost use Rattle.core_loop.specs.CoreView.{CoreView};
-ghost use Rattle.core_loop.specs.Turns.{HasMoved, OwesPost, OwesTake, Owes, IsCoreDone, HasEnded, IfWaiting};
+ghost use Rattle.core_loop.specs.Turns.{HasMoved, OwesPost, OwesTake, Owes, IsCoreDone, HasEnded, IfWaiting, MayFail};
 ghost use Rattle.parcel.specs.PlainBoxesView.{box_at, HasParcel, HasNoParcel};
 ghost use Rattle.world.specs.WorldView.{IsCoreOf};
 ghost use Rattle.world.specs.Worlds.{WorldStillStands, Turned, TurnedBy, IsWorldDone};
@@ -31,9 +31,14 @@ impl<'s> World<'s> {
             → HasNoParcel (box_at self.old.boxes other core)) }
         ensures done { result ≡ Turn.Done → (d : CoreView) → IsCoreOf self.new core d → IsCoreDone d × HasEnded d }
 
-        // Out of memory: no run goes on.
+        // Out of memory: no run goes on. The core had failed before, or took a parcel, ran a window or was to run one.
         ensures failed { result ≡ Turn.NoMemory → self.new.failed ≡ true }
         ensures works { result ≢ Turn.NoMemory → self.new.failed ≡ self.old.failed }
+        ensures may_fail { result ≡ Turn.NoMemory → (c d : CoreView) → IsCoreOf self.old core c → IsCoreOf self.new core d
+            → MayFail c d }
+
+        // Whatever it answers, the other cores are as they were.
+        ensures others { (other : ℕ) → other ≢ core → slice_get self.new.cores other ≡ slice_get self.old.cores other }
     {
         self.boxes.serve(core);
         let turn = self.cores[core as usize].turn(alloc, &mut self.boxes);

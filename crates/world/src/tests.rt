@@ -4,7 +4,7 @@ use crate::{World, order_list};
 use core_loop::{PortName, Tally, Turn, stock};
 use journal::{Fate, LossBy, PacketPlan, PipeChange, Setup, SetupParts, fates};
 use mn_base::limits::KEEP_MAX;
-use mn_base::{Bytes, Cause, PipeParams};
+use mn_base::{Bytes, Cause, NoMemory, PipeParams};
 use parcel::{CoreResult, Settled, lookahead};
 use std::alloc::Global;
 use std::process::Abort;
@@ -499,6 +499,41 @@ fn a_world_may_be_given_up(rt: HostRuntime) -> Result<(), Fail> {
     let setup = meeting(alloc)?;
     let mut world = begun(alloc, &setup)?;
     turn_all(&rt, alloc, &mut world, &[(0, Turn::Moved)]);
+    world.abandon();
+    Ok(())
+}
+
+/// The cores of a world that are given up one by one, with stores and parcels.
+#[test]
+fn a_core_may_be_given_up(rt: HostRuntime) -> Result<(), Fail> {
+    let alloc = rt.alloc();
+    let setup = meeting(alloc)?;
+    let mut world = begun(alloc, &setup)?;
+    turn_all(&rt, alloc, &mut world, &[(0, Turn::Moved)]);
+    let World {
+        setup: _,
+        cores,
+        boxes: _,
+        failed: _,
+    } = world;
+    for core in cores {
+        core.abandon();
+    }
+    Ok(())
+}
+
+/// A world in which a core found no memory goes no further, also where no core is named. The mark of it is set by hand: memory isn't
+/// refused here.
+#[test]
+fn a_world_without_memory_goes_no_further(rt: HostRuntime) -> Result<(), Fail> {
+    let alloc = rt.alloc();
+    let setup = meeting(alloc)?;
+    let order = order_list(alloc, 304, 5, setup.parts().cores)?;
+    let mut world = begun(alloc, &setup)?;
+    world.failed = true;
+    assert_eq!(rt; world.run_order(alloc, &[]), Err(NoMemory));
+    assert_eq!(rt; world.run_round_robin(alloc), Err(NoMemory));
+    assert_eq!(rt; world.run_order(alloc, &order), Err(NoMemory));
     world.abandon();
     Ok(())
 }

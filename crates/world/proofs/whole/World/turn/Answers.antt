@@ -1,13 +1,13 @@
-use Rattle.std.proofs.Common.{◌≡◌, ◌≢◌, ℕ, ◌<◌, true, false, length, refl, sym, ap, ◌∙◌, subst, arith}
+use Rattle.std.proofs.Common.{◌≡◌, ◌≢◌, ℕ, ◌<◌, true, false, length, slice_get, refl, sym, ap, ◌∙◌, subst, arith}
 use Rattle.std.proofs.Math.ListN.{set}
 use Rattle.parcel.specs.PlainBoxesView.{PlainBoxesView, HasParcel, HasNoParcel, box_at}
 use Rattle.core_loop.specs.declared.turn.Turn.TheVariants.{Moved}
 use Rattle.core_loop.specs.CoreView.{CoreView}
-use Rattle.core_loop.specs.Turns.{HasMoved, OwesPost, OwesTake, Owes, IsCoreDone, IfWaiting}
+use Rattle.core_loop.specs.Turns.{HasMoved, OwesPost, OwesTake, Owes, IsCoreDone, IfWaiting, MayFail}
 use Rattle.world.specs.WorldView.{WorldView, IsCoreOf}
 use Rattle.world.specs.Worlds.{WorldStillStands, Turned}
 use Rattle.world.proofs.OneTurn.{world_then}
-use Rattle.world.proofs.TurnSays.{CoreTurned, found-core, says-stands, says-turned, says-moved, says-waits, says-same, says-posts, says-takes, says-done, says-world}
+use Rattle.world.proofs.TurnSays.{CoreTurned, found-core, says-stands, says-turned, says-moved, says-waits, says-same, says-posts, says-takes, says-done, says-may-fail, says-others, says-world}
 use Rattle.world.proofs.whole.World.turn.Goals as goal
 use Rattle.world.proofs.whole.World.turn.Goals.{After-turn-turn}
 
@@ -50,6 +50,7 @@ told c =
       done = c.turn-turn.ensures.done;
       ended = c.turn-turn.ensures.ended;
       no_memory = c.turn-turn.ensures.no_memory;
+      may_fail = c.turn-turn.ensures.may_fail;
     })
 
 pub invariant_of-self : goal.invariant_of-self
@@ -95,4 +96,24 @@ returns c =
       done = says-done (before t) core _ c.turn-turn.new.self c.turn-turn.new.ports turn is (here t) (told t) failed;
       failed = λ e. absurd (c.in_default.not-NoMemory e);
       works = λ _. ap (λ (w : WorldView). w.failed) view;
+      may_fail = λ e. absurd (c.in_default.not-NoMemory e);
+      others = subst (λ (w : WorldView). (other : ℕ) → other ≢ core → slice_get after.cores other ≡ slice_get w.cores other) view
+          (says-others (before t) core _ c.turn-turn.new.self c.turn-turn.new.ports turn is (here t) (told t));
     }
+
+pub returns-in-NoMemory-clause-may_fail : goal.returns-in-NoMemory-clause-may_fail
+returns-in-NoMemory-clause-may_fail c =
+    let t = (goal.at.returns-in-NoMemory-clause-may_fail c).After-turn-turn in
+    let core = c.args.core in
+    let after = world_then (before t) core c.turn-turn.new.self c.turn-turn.new.ports true in
+    λ _. subst (λ (w : WorldView). (b e : CoreView) → IsCoreOf w core b → IsCoreOf after core e → MayFail b e) c.self.view_is
+    (says-may-fail (before t) core _ c.turn-turn.new.self c.turn-turn.new.ports c.turn-turn.result c.self.invariant (here t) (told t) true
+    c.in-NoMemory.is)
+
+pub returns-in-NoMemory-clause-others : goal.returns-in-NoMemory-clause-others
+returns-in-NoMemory-clause-others c =
+    let t = (goal.at.returns-in-NoMemory-clause-others c).After-turn-turn in
+    let core = c.args.core in
+    subst (λ (w : WorldView). (other : ℕ) → other ≢ core → slice_get (set c.self.inside.cores.items core c.turn-turn.new.self) other ≡ slice_get w.cores other)
+    c.self.view_is
+    (says-others (before t) core _ c.turn-turn.new.self c.turn-turn.new.ports c.turn-turn.result c.self.invariant (here t) (told t))
