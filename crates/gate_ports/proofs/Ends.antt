@@ -1,6 +1,7 @@
 -- A post and a take change one end of all.
 use Rattle.std.proofs.Common.{◌≡◌, ◌≢◌, ◌⊎◌, inl, inr, ℕ, ◌+◌, ◌<◌, ◌≤◌, List, length, map, slice_index, slice_index_or, refl, sym, ap, ◌∙◌, subst, arith, get_or-set_same, get_or-set_other}
 use Rattle.std.proofs.Math.ListN.{set}
+use Rattle.std.proofs.Math.Seq.{map-set_same}
 use Rattle.std.proofs.lemmas.List.{map-set, get_or-map, length-map}
 use Rattle.std.proofs.lemmas.Bool.{cases_order}
 use Rattle.std.specs.Vec.{with_item}
@@ -8,7 +9,7 @@ use Rattle.gate_box.specs.EndView.{EndView}
 use Rattle.gate_ports.specs.declared.lane_name.LaneName.{LaneName}
 use Rattle.gate_ports.specs.declared.gate_ports.GatePorts.TheInside.{Inside}
 use Rattle.gate_ports.specs.GatePortsView.{GatePortsView, NothingFalls}
-use Rattle.gate_ports.specs.GatePorts.{AreEnds, nexts, misses, words, ports_view}
+use Rattle.gate_ports.specs.GatePorts.{AreEnds, lanes, nexts, misses, words, ports_view}
 
 -- the number at i becomes x, and no other changes
 record SetsOne (xs ys : List ℕ) (i x : ℕ) : Type 0 where
@@ -43,11 +44,17 @@ module _ (f : EndView LaneName → ℕ) (es : List (EndView LaneName)) (i : ℕ)
         ap (λ (xs : List ℕ). slice_index xs j) (map-set f es i new) ∙ get_or-set_other (map f es) i j (f new) 0 ne;
   }
 
--- an end was lent out of a row and came back: its number didn't fall, nor did its count of misses
+-- an end was lent out of a row and came back: it is of the same lane, its number didn't fall, nor did its count of misses
 pub record ComesBackTo (es : List (EndView LaneName)) (i : ℕ) (old new : EndView LaneName) : Type 0 where
   pub read : old ≡ slice_index_or es i old
+  pub lane : new.lane ≡ old.lane
   pub more : old.next ≤ new.next
   pub no_fewer : old.misses ≤ new.misses
+
+-- then the lanes of the row stay
+same_lanes : (es : List (EndView LaneName)) (i : ℕ) (old new : EndView LaneName) → ComesBackTo es i old new → lanes (set es i new) ≡ lanes es
+same_lanes es i old new back =
+    map-set_same (λ (e : EndView LaneName). e.lane) es i new old (back.lane ∙ ap (λ (e : EndView LaneName). e.lane) back.read)
 
 -- a call that answered Ok raised its end's number
 pub one_more : {old new : EndView LaneName} → new ≡ record old { next = old.next + 1 } → old.next ≤ new.next
@@ -72,6 +79,8 @@ posts s p is are to known old new back =
       keeps = record {
         setup = refl;
         core = refl;
+        post_lanes = same_lanes s.senders.items to old new back;
+        take_lanes = refl;
         posts = rises _ _ to new.next nexts_set (omega (arith, old_next, back.more));
         takes = λ j. omega arith;
         post_misses = rises _ _ to new.misses misses_set (omega (arith, old_misses, back.no_fewer));
@@ -124,6 +133,8 @@ takes s p is are from known old new back =
       keeps = record {
         setup = refl;
         core = refl;
+        post_lanes = refl;
+        take_lanes = same_lanes s.receivers.items from old new back;
         posts = λ j. omega arith;
         takes = rises _ _ from new.next nexts_set (omega (arith, old_next, back.more));
         post_misses = λ j. omega arith;

@@ -1,5 +1,6 @@
 -- The ends of a core's lanes.
 use Rattle.std.specs.Prelude.{◌≡◌, ℕ, ◌^◌, ◌<◌, List, length, map, slice_index_or}
+use Rattle.atomic_table.specs.Seated.{TableId}
 use Rattle.journal.specs.SetupView.{SetupView}
 use Rattle.gate_box.specs.EndView.{EndView}
 use Rattle.parcel.specs.Windows.{window_count}
@@ -12,6 +13,9 @@ pub record IsLaneEnd (S : SetupView) (sender receiver : ℕ) (e : EndView LaneNa
   pub setup : e.name.setup.now ≡ S
   pub from : e.name.from ≡ sender
   pub to : e.name.to ≡ receiver
+
+abbrev pub lanes : List (EndView LaneName) → List TableId
+lanes es = map (λ e. e.lane) es
 
 abbrev pub nexts : List (EndView LaneName) → List ℕ
 nexts es = map (λ e. e.next) es
@@ -26,6 +30,8 @@ abbrev pub ports_view : Inside → GatePortsView
 ports_view s = record {
   setup = s.setup.now;
   core = s.core;
+  post_lanes = lanes s.senders.items;
+  take_lanes = lanes s.receivers.items;
   posted = nexts s.senders.items;
   taken = nexts s.receivers.items;
   post_misses = misses s.senders.items;

@@ -7,6 +7,8 @@ pub falls_nowhere : (p : GatePortsView) → NothingFalls p p
 falls_nowhere p = record {
   setup = refl;
   core = refl;
+  post_lanes = refl;
+  take_lanes = refl;
   posts = λ j. omega arith;
   takes = λ j. omega arith;
   post_misses = λ j. omega arith;
@@ -17,6 +19,8 @@ pub falls_nowhere_between : (p q r : GatePortsView) → NothingFalls p q → Not
 falls_nowhere_between p q r a b = record {
   setup = b.setup ∙ a.setup;
   core = b.core ∙ a.core;
+  post_lanes = b.post_lanes ∙ a.post_lanes;
+  take_lanes = b.take_lanes ∙ a.take_lanes;
   posts = λ j. omega (arith, a.posts j, b.posts j);
   takes = λ j. omega (arith, a.takes j, b.takes j);
   post_misses = λ j. omega (arith, a.post_misses j, b.post_misses j);

@@ -3,7 +3,7 @@ ghost use Rattle.journal.specs.IsSetup.{IsSetup};
 ghost use Rattle.parcel.specs.Windows.{window_count};
 ghost use Rattle.parcel.specs.Parcels.{IsParcel};
 ghost use Rattle.gate_ports.specs.GatePortsView.{IsFresh, NothingFalls, PostMissed, TakeMissed, lane_posted, lane_taken};
-ghost use Rattle.gate_ports.specs.Building.{HasSenders, HasReceivers};
+ghost use Rattle.gate_ports.specs.Building.{HasSenders, HasReceivers, HasLanes};
 
 use crate::lane_name::Parcels;
 use gate_box::{LaneBusy, LaneEmpty, Receiver, Sender};
@@ -46,7 +46,8 @@ impl<'s> GatePorts<'s> {
         requires core { core < setup.now.cores }
         requires senders { HasSenders setup.now setup.now.cores core senders }
         requires receivers { HasReceivers setup.now setup.now.cores core receivers }
-        ensures { IsFresh setup.now core result }
+        ensures fresh { IsFresh setup.now core result }
+        ensures lanes { HasLanes senders.entry receivers.entry result }
     {
         windows_are_few(setup);
         GatePorts {

@@ -1,8 +1,8 @@
 ghost use Rattle.std.specs.Prelude.{◌≡◌, ◌<◌, ◌≤◌, ◌+◌, [], length, IfOk, OnOk};
 ghost use Rattle.mn_base.specs.declared.limits.TheConstants.{CORES_MAX};
 ghost use Rattle.journal.specs.IsSetup.{IsSetup};
-ghost use Rattle.gate_ports.specs.GatePortsView.{EachAt, IsFresh};
-ghost use Rattle.gate_ports.specs.Building.{HasSenders, HasReceivers};
+ghost use Rattle.gate_ports.specs.GatePortsView.{EachAt, IsFresh, AreJoined};
+ghost use Rattle.gate_ports.specs.Building.{HasSenders, HasReceivers, JoinsOne, JoinsRow, AreOfOneLane};
 
 use crate::gate_ports::GatePorts;
 use crate::lane_name::{LaneName, Parcels};
@@ -26,6 +26,7 @@ type Receivers<'s> = Vec<Receiver<Parcels<'s>>>;
 pub fn lanes<'s>(alloc: Global, setup: &'s Setup) -> Result<Vec<GatePorts<'s>>, NoMemory>
     ensures count { IfOk result (λ all. length all.items ≡ setup.now.cores) }
     ensures fresh { IfOk result (λ all. EachAt (IsFresh setup.now) all.items) }
+    ensures one_lane { IfOk result (λ all. AreJoined all.items) }
 {
     let cores = setup.parts().cores;
     let mut senders = no_senders(alloc, cores)?;
@@ -60,6 +61,7 @@ fn lanes_to<'s>(
     requires senders { EachAt (HasSenders setup.now to) senders.old }
     ensures senders { OnOk result (EachAt (HasSenders setup.now (to + 1)) senders.new) }
     ensures receivers { IfOk result (HasReceivers setup.now (length senders.old) to) }
+    ensures one_lane { IfOk result (λ row. EachAt (JoinsRow senders.old row) senders.new) }
 {
     let mut receivers = Vec::with_capacity(alloc, senders.len())?;
     for from in 0..senders.len() {
@@ -84,6 +86,7 @@ fn join<'s>(
     requires receivers { HasReceivers name.setup.now name.from name.to receivers.old }
     ensures senders { OnOk result (HasSenders name.entry.setup.now (name.entry.to + 1) name.entry.from senders.new) }
     ensures receivers { OnOk result (HasReceivers name.entry.setup.now (name.entry.from + 1) name.entry.to receivers.new) }
+    ensures one_lane { OnOk result (JoinsOne senders.old senders.new receivers.old receivers.new) }
 {
     let (sender, receiver) = pair::<Parcels>(alloc, name)?;
     senders.push(sender)?;
@@ -103,8 +106,10 @@ fn ports_of<'s>(
     requires same { length receivers.old ≡ setup.now.cores }
     requires senders { EachAt (HasSenders setup.now setup.now.cores) senders.old }
     requires receivers { EachAt (HasReceivers setup.now setup.now.cores) receivers.old }
+    requires one_lane { AreOfOneLane senders.old receivers.old }
     ensures count { IfOk result (λ all. length all.items ≡ setup.now.cores) }
     ensures fresh { IfOk result (λ all. EachAt (IsFresh setup.now) all.items) }
+    ensures one_lane { IfOk result (λ all. AreJoined all.items) }
 {
     let mut all = Vec::with_capacity(alloc, senders.len())?;
     for core in 0..senders.len() {

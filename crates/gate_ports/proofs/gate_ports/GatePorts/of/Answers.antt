@@ -4,8 +4,8 @@ use Rattle.gate_ports.specs.declared.lane_name.LaneName.{LaneName}
 use Rattle.gate_ports.proofs.Building.{zeros}
 use Rattle.gate_ports.proofs.gate_ports.GatePorts.of.Goals as goal
 
-pub returns : goal.returns
-returns c = record {
+pub returns-clause-fresh : goal.returns-clause-fresh
+returns-clause-fresh c = record {
   setup = refl;
   core = refl;
   posted = zeros (λ (e : EndView LaneName). e.next) c.args.senders.items (λ j d within. (c.requires.senders.each j d within).next);

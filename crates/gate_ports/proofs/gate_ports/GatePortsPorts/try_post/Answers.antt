@@ -14,7 +14,7 @@ ended : (c : After-try_post) → c.index_mut-lane.result.now.next ≤ c.try_post
 ended c more =
     posts c.self.inside c.args.self.now c.self.view_is c.self.invariant c.args.to c.requires.known c.index_mut-lane.result.now
     c.try_post.new.self
-    (record { read = c.index_mut-lane.ensures.value; more = more; no_fewer = c.try_post.ensures.misses })
+    (record { read = c.index_mut-lane.ensures.value; lane = c.try_post.ensures.lane; more = more; no_fewer = c.try_post.ensures.misses })
 
 pub returns-in_default-clause-keeps : goal.returns-in_default-clause-keeps
 returns-in_default-clause-keeps c =

@@ -14,7 +14,7 @@ ended : (c : After-try_take) → c.index_mut-lane.result.now.next ≤ c.try_take
 ended c more =
     takes c.self.inside c.args.self.now c.self.view_is c.self.invariant c.args.from c.requires.known c.index_mut-lane.result.now
     c.try_take.new.self
-    (record { read = c.index_mut-lane.ensures.value; more = more; no_fewer = c.try_take.ensures.misses })
+    (record { read = c.index_mut-lane.ensures.value; lane = c.try_take.ensures.lane; more = more; no_fewer = c.try_take.ensures.misses })
 
 pub returns-in-Ok-clause-keeps : goal.returns-in-Ok-clause-keeps
 returns-in-Ok-clause-keeps c =
