@@ -1,11 +1,15 @@
 #!/usr/bin/env python3
 """Beside ns-3: several senders over shared bottlenecks, hop by hop, with the routes set by hand in ns-3.
 
-A dumbbell of dumbbells: 12 senders and 12 receivers at six routers, links that are shared by many routes, no loss. `emulate` runs the capture; so does
-ns-3 over the pipes that `distill` prints, once with our rounding of times and once as it is. With our rounding each packet has to have the same fate at
-the same ns; as it is, the differences are printed.
+A dumbbell of dumbbells: 24 hosts that send and receive at six routers, links that are shared by many routes, no loss. `emulate` runs the capture on one
+core and on four; so does ns-3 over the pipes that `distill` prints, with our rounding of times and as it is. With our rounding each packet has to have
+the same fate at the same ns; as it is, the differences are printed.
 
-usage: bench/ns3/compare.py [PACKETS]      20,000 packets where none are given; MODELNET names another binary; needs g++, libns3-dev and networkx
+usage: bench/ns3/compare.py [PACKETS] [RUNS] [TICK_NS]      20,000 packets, 3 runs, ticks of 100,000 ns
+
+MODELNET names another binary than crates/modelnet/out/modelnet. Needs g++, libns3-dev, networkx and GNU time.
+
+Of RUNS the least seconds and the greatest memory count. Those of a program have its reading and writing in them; ns-3's events alone are told, too.
 """
 import os
 import random
@@ -13,14 +17,14 @@ import struct
 import subprocess
 import sys
 import tempfile
-import time
 
 import networkx
 
 HERE = os.path.dirname(os.path.abspath(__file__))
 ROOT = os.path.dirname(os.path.dirname(HERE))
 BINARY = os.environ.get("MODELNET", os.path.join(ROOT, "crates/modelnet/out/modelnet"))
-ROUTERS, HOSTS, TICK_NS = 6, 24, 100_000
+ROUTERS, HOSTS = 6, 24
+TICK_NS = int(sys.argv[3]) if len(sys.argv) > 3 else 100_000
 LIBRARIES = ["core", "network", "point-to-point"]
 
 
@@ -43,7 +47,8 @@ def write_topology(name, draw):
 
 def pipes_of(topology):
     """The pipes that `distill` prints: number, ends, and what ns-3 wants of them."""
-    printed = subprocess.run([BINARY, "distill", "--topology", topology], check=True, capture_output=True, text=True).stdout
+    words = ["--topology", topology, "--tick-ns", str(TICK_NS)]
+    printed = subprocess.run([BINARY, "distill", *words], check=True, capture_output=True, text=True).stdout
     for line in printed.splitlines()[2:]:
         words = line.split()
         yield int(words[1]), int(words[3]), int(words[5]), (int(words[7]), int(words[9]) * 1000, int(words[11]), int(words[13]))
@@ -68,13 +73,26 @@ def write_capture(name, sent):
             out.write(struct.pack("<IIII", time_ns // 10**9, time_ns % 10**9, len(header), length) + header)
 
 
-def our_fates(file, packets):
+def measured(runs, name, words):
+    """Runs a command some times and prints what it took; gives back what each run printed."""
+    taken, printed = [], []
+    for _run in range(runs):
+        with tempfile.NamedTemporaryFile("r") as took:
+            command = ["/usr/bin/env", "time", "-f", "%e %U %S %M", "-o", took.name, *words]
+            printed.append(subprocess.run(command, check=True, stdout=subprocess.PIPE, text=True).stdout)
+            taken.append([float(word) for word in took.read().split()])
+    wall = min(each[0] for each in taken)
+    processor = min(each[1] + each[2] for each in taken)
+    memory = max(each[3] for each in taken)
+    print(f"{name}: {wall:.2f} seconds, {processor:.2f} of a processor, {memory / 1024:.0f} MiB", flush=True)
+    return printed
+
+
+def our_fates(file, packets, cores, runs):
     """The fate of each packet as `emulate` writes it; a packet's number stands in its bytes."""
     fates = [None] * packets
-    start = time.perf_counter()
     words = [word for role in ("topology", "trace", "out", "report") for word in (f"--{role}", file[role])]
-    subprocess.run([BINARY, "emulate", *words, "--tick-ns", str(TICK_NS)], check=True)
-    seconds = time.perf_counter() - start
+    measured(runs, f"emulate --cores {cores}", [BINARY, "emulate", *words, "--tick-ns", str(TICK_NS), "--cores", str(cores)])
     with open(file["out"], "rb") as out:
         text = out.read()
     for place in range(24, len(text), 36):
@@ -86,13 +104,14 @@ def our_fates(file, packets):
             words = line.split()
             if words[0] == "drop":
                 fates[int(words[1])] = f"dropped {words[3]} {int(words[5]) * TICK_NS}"
-    return fates, seconds
+    return fates
 
 
-def ns3_fates(file, program, tick_ns):
-    done = subprocess.run([program, file["pipes"], file["sent"], file["fates"], str(tick_ns)], check=True, capture_output=True, text=True)
+def ns3_fates(file, program, name, tick_ns, runs):
+    printed = measured(runs, name, [program, file["pipes"], file["sent"], file["fates"], str(tick_ns)])
+    print(f"{name}, events alone: {min(map(float, printed)):.2f} seconds", flush=True)
     with open(file["fates"], encoding="ascii") as fates:
-        return fates.read().splitlines(), float(done.stdout)
+        return fates.read().splitlines()
 
 
 def compile_driver(folder):
@@ -118,8 +137,21 @@ def write_for_ns3(file, sent):
             out.write(f"{time_ns} {length} {walks[source, target]}\n")
 
 
+def print_differences(ours, plain):
+    """How far ns-3 is from us where no rounding of ours was put into it."""
+    pairs = [(a.split(), b.split()) for a, b in zip(ours, plain)]
+    here = sum(a[0] == "dropped" and b[0] == "left" for a, b in pairs)
+    there = sum(a[0] == "left" and b[0] == "dropped" for a, b in pairs)
+    elsewhere = sum(a[0] == b[0] == "dropped" and a[1] != b[1] for a, b in pairs)
+    differences = sorted(int(a[1]) - int(b[1]) for a, b in pairs if a[0] == b[0] == "left")
+    middle, most = differences[len(differences) // 2], max(abs(differences[0]), abs(differences[-1]))
+    print(f"ns-3 as it is: {here} packets are dropped here alone, {there} there alone, {elsewhere} at another pipe")
+    print(f"those that leave both: {middle} ns apart in the median, {most} ns at most")
+
+
 def main():
     packets = int(sys.argv[1]) if len(sys.argv) > 1 else 20_000
+    runs = int(sys.argv[2]) if len(sys.argv) > 2 else 3
     draw = random.Random(3)
     with tempfile.TemporaryDirectory() as folder:
         file = {name: os.path.join(folder, name) for name in ("topology", "trace", "out", "report", "pipes", "sent", "fates")}
@@ -128,19 +160,15 @@ def main():
         write_capture(file["trace"], sent)
         write_for_ns3(file, sent)
         program = compile_driver(folder)
-        ours, seconds = our_fates(file, packets)
-        rounded, ns3_seconds = ns3_fates(file, program, TICK_NS)
-        wrong = [number for number in range(packets) if ours[number] != rounded[number]]
-        assert not wrong, (len(wrong), wrong[0], ours[wrong[0]], rounded[wrong[0]])
+        rounded = ns3_fates(file, program, "ns-3 with our rounding", TICK_NS, runs)
+        assert len(rounded) == packets
+        for cores in 1, 4:
+            ours = our_fates(file, packets, cores, runs)
+            wrong = [number for number in range(packets) if ours[number] != rounded[number]]
+            assert not wrong, (cores, len(wrong), wrong[0], ours[wrong[0]], rounded[wrong[0]])
         left = sum(fate.startswith("left") for fate in ours)
         print(f"{packets} packets, {left} left, {packets - left} dropped: each fate and time as ns-3's with our rounding")
-        print(f"seconds: {seconds:.2f} with reading and writing, ns-3's run alone {ns3_seconds:.2f}")
-        plain, _seconds = ns3_fates(file, program, 0)
-        both = [(int(a.split()[1]), int(b.split()[1])) for a, b in zip(ours, plain) if a.startswith("left") and b.startswith("left")]
-        others = sum(a.split()[0] != b.split()[0] for a, b in zip(ours, plain))
-        differences = sorted(a - b for a, b in both)
-        middle, most = differences[len(differences) // 2], max(abs(differences[0]), abs(differences[-1]))
-        print(f"ns-3 as it is: {others} packets have another fate; the others leave {middle} ns apart in the median, {most} ns at most")
+        print_differences(ours, ns3_fates(file, program, "ns-3 as it is", 0, runs))
 
 
 if __name__ == "__main__":

@@ -3,15 +3,15 @@
 //
 // usage: topology PIPES TRACE OUT TICK
 //   PIPES  a line a pipe: "BPS LATENCY_NS LATENCY_TICKS QUEUE"; QUEUE counts the packet on the wire, too (ns-3's limit is one less)
-//   TRACE  a line a packet: "TIME_NS LENGTH PIPE .."; its number is that of its line, from 0
+//   TRACE  a line a packet, in the order of time: "TIME_NS LENGTH PIPE .."; its number is that of its line, from 0
 //   OUT    a line a packet: "left TIME_NS" or "dropped PIPE TIME_NS"
 //   TICK   0: ns-3 as it is. Else a length in ns: entries are rounded down to ticks since the first time, and a packet goes on at its finish in
 //          ticks, rounded up, and the pipe's latency in ticks; an arrival comes after a finish of the same ns, and packets of one tick by number.
-#include <algorithm>
 #include <chrono>
 #include <fstream>
 #include <iostream>
 #include <map>
+#include <set>
 #include <sstream>
 #include <string>
 #include <vector>
@@ -30,7 +30,7 @@ struct Pipe {
 struct Sent {
   int64_t time_ns;
   uint32_t length;
-  std::vector<uint32_t> route;
+  const std::vector<uint32_t>* route;
   uint32_t hop = 0;
   int dropped_at = -1;
   int64_t end_ns = -1;
@@ -53,6 +53,7 @@ class Number : public Tag {
 
 static std::vector<Pipe> pipes;
 static std::vector<Sent> trace;
+static std::set<std::vector<uint32_t>> routes;  // each once, however many packets take it
 static int64_t tick_ns = 0, base_ns = 0;
 // What arrives at one ns, by number, where ticks count.
 static std::map<uint32_t, Ptr<Packet>> arrived;
@@ -68,13 +69,14 @@ static uint32_t NumberOf(Ptr<const Packet> packet) {
 
 static void Give(Ptr<Packet> packet) {
   Sent& sent = trace[NumberOf(packet)];
-  if (sent.hop == sent.route.size()) {
+  if (sent.hop == sent.route->size()) {
     sent.end_ns = Simulator::Now().GetNanoSeconds();
     return;
   }
-  Pipe& pipe = pipes[sent.route[sent.hop]];
+  uint32_t number = (*sent.route)[sent.hop];
+  Pipe& pipe = pipes[number];
   if (!pipe.sender->Send(packet, pipe.sender->GetBroadcast(), 0x0800)) {
-    sent.dropped_at = sent.route[sent.hop];
+    sent.dropped_at = number;
     sent.end_ns = Simulator::Now().GetNanoSeconds();
   }
 }
@@ -92,6 +94,25 @@ static void Arrive(Ptr<Packet> packet) {
   if (tick_ns == 0) return Give(packet);
   if (arrived.empty()) Simulator::ScheduleNow(&Later);
   arrived[NumberOf(packet)] = packet;
+}
+
+// The ns at which a packet of the trace enters.
+static int64_t Entry(uint32_t number) {
+  int64_t since = trace[number].time_ns - base_ns;
+  return base_ns + (tick_ns ? since / tick_ns * tick_ns : since);
+}
+
+// The packets of this ns enter, from the given one on; the next one waits for its own ns, so that few packets and events exist at a time.
+static void Enter(uint32_t number) {
+  int64_t now = Simulator::Now().GetNanoSeconds();
+  for (; number < trace.size() && Entry(number) == now; number++) {
+    auto packet = Create<Packet>(trace[number].length - 2);  // the PPP header has two bytes
+    Number tag;
+    tag.number = number;
+    packet->AddPacketTag(tag);
+    Arrive(packet);
+  }
+  if (number < trace.size()) Simulator::Schedule(NanoSeconds(Entry(number) - now), &Enter, number);
 }
 
 static bool Receive(uint32_t number, Ptr<NetDevice>, Ptr<const Packet> packet, uint16_t, const Address&) {
@@ -117,8 +138,10 @@ static void Read(const char* pipes_name, const char* trace_name) {
     std::istringstream words(line);
     Sent sent;
     words >> sent.time_ns >> sent.length;
+    std::vector<uint32_t> route;
     uint32_t number;
-    while (words >> number) sent.route.push_back(number);
+    while (words >> number) route.push_back(number);
+    sent.route = &*routes.insert(route).first;
     trace.push_back(sent);
   }
 }
@@ -147,15 +170,8 @@ int main(int argc, char** argv) {
   Read(argv[1], argv[2]);
   tick_ns = std::stoll(argv[4]);
   for (uint32_t number = 0; number < pipes.size(); number++) Connect(pipes[number], number);
-  base_ns = trace.empty() ? 0 : std::min_element(trace.begin(), trace.end(), [](auto& a, auto& b) { return a.time_ns < b.time_ns; })->time_ns;
-  for (uint32_t number = 0; number < trace.size(); number++) {
-    auto packet = Create<Packet>(trace[number].length - 2);  // the PPP header has two bytes
-    Number tag;
-    tag.number = number;
-    packet->AddPacketTag(tag);
-    int64_t since = trace[number].time_ns - base_ns;
-    Simulator::ScheduleWithContext(0, NanoSeconds(base_ns + (tick_ns ? since / tick_ns * tick_ns : since)), &Arrive, packet);
-  }
+  base_ns = trace.empty() ? 0 : trace[0].time_ns;
+  Simulator::Schedule(NanoSeconds(base_ns), &Enter, 0);
   auto start = std::chrono::steady_clock::now();
   Simulator::Run();
   std::chrono::duration<double> seconds = std::chrono::steady_clock::now() - start;
