@@ -73,11 +73,16 @@ timed_all S (suc n) (f ∷ fates) (p ∷ packets) same far =
 abbrev pub has_time : Packet → Bool
 has_time packet = not (eqb packet.time_ns 18446744073709551615)
 
+-- the packets that left, in packet order, where each packet has a fate
+abbrev leavings_by : (PacketPlan → Fate) → List PacketPlan → List (List ℕ) → List Leaving
+leavings_by fate ps bytes = filter_map (λ p. leaving_of p.0.number p.1 (fate p.0)) (zip ps bytes)
+
 -- of all packets at their times, those that leave
 pub timed-leave : (S : SetupView) (fate : PacketPlan → Fate) (ps : List PacketPlan) (packets : List Packet)
     → ((p : PacketPlan) → Among p ps → len_of S p.number ≡ p.len) → ((p : PacketPlan) → Among p ps → FitsRecord S (fate p))
     → map (λ p. p.original) packets ≡ map (λ p. p.len) ps
-    → filter has_time (map (λ e. timed S e.0 e.1) (zip (map fate ps) packets)) ≡ map (packet_left S) (filter_map (λ p. leaving_of p.0.number p.1 (fate p.0)) (zip ps (map (λ p. p.bytes) packets)))
+    → filter has_time (map (λ e. timed S e.0 e.1) (zip (map fate ps) packets))
+    ≡ map (packet_left S) (leavings_by fate ps (map (λ p. p.bytes) packets))
 timed-leave S fate [] packets lens fit same = refl
 timed-leave S fate (p ∷ ps) [] lens fit same = refl
 timed-leave S fate (p ∷ ps) (x ∷ packets) lens fit same =
